@@ -1,6 +1,5 @@
 //! Texts of addresses, and whom they allow.
-use crate::reasons::is_reason;
-use access_list::{AccessFault, AccessList, address};
+use access_list::{AccessFault, AccessList};
 use std::alloc::Global;
 use std::net::Ipv4Addr;
 
@@ -69,22 +68,5 @@ static FAULTS: [(&[u8], Option<AccessFault>); 17] = [
 fn the_first_bad_token_is_told(rt: HostRuntime) {
     for (row, &(text, wanted)) in FAULTS.iter().enumerate() {
         assert!(rt; fault(rt.alloc(), text) == wanted, "in row {row}");
-    }
-}
-
-#[test]
-fn addresses_are_read(rt: HostRuntime) {
-    assert!(rt; address(b"255.10.007.0") == Some(Ipv4Addr::new(255, 10, 7, 0)));
-    assert!(rt; address(b"255.10.7.0 ").is_none() && address(b"-1.2.3.4").is_none());
-}
-
-#[test]
-fn faults_have_numbers_and_names(rt: HostRuntime) {
-    for (fault, number, name) in [
-        (AccessFault::Address, 11, "Address"),
-        (AccessFault::Mask, 12, "Mask"),
-        (AccessFault::OutOfMemory, 25, "OutOfMemory"),
-    ] {
-        assert!(rt; is_reason(fault.reason(), number, name), "{name}");
     }
 }

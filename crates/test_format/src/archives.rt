@@ -4,13 +4,14 @@ use mseed_header::read;
 use record_archive::{Archive, MemoryFolders, StationCodes, Stored};
 use sl_time::{DayOfYear, Tick, day_of};
 use std::alloc::{AllocError, Global};
+use std::test::Fail;
 
 /// The folder and the file of a record.
 type Place = (&'static [u8], &'static [u8]);
 
-/// Changes of the worked record, and its place then.
-static PLACES: [(Changes<'static>, Place); 6] = [
-    (&[], (b"2024/GE/APE/BHZ.D", b"GE.APE..BHZ.D.2024.060")),
+/// Changes of the worked record, and its place then, if it has one.
+static PLACES: [(Changes<'static>, Option<Place>); 14] = [
+    (&[], Some((b"2024/GE/APE/BHZ.D", b"GE.APE..BHZ.D.2024.060"))),
     // The last tick of a leap year, and of another one.
     (
         &[
@@ -22,7 +23,7 @@ static PLACES: [(Changes<'static>, Place); 6] = [
             (28, 0x27),
             (29, 0x0f),
         ],
-        (b"2024/GE/APE/BHZ.D", b"GE.APE..BHZ.D.2024.366"),
+        Some((b"2024/GE/APE/BHZ.D", b"GE.APE..BHZ.D.2024.366")),
     ),
     (
         &[
@@ -35,12 +36,12 @@ static PLACES: [(Changes<'static>, Place); 6] = [
             (28, 0x27),
             (29, 0x0f),
         ],
-        (b"2023/GE/APE/BHZ.D", b"GE.APE..BHZ.D.2023.365"),
+        Some((b"2023/GE/APE/BHZ.D", b"GE.APE..BHZ.D.2023.365")),
     ),
     // The last tick of a leap day.
     (
         &[(24, 23), (25, 59), (26, 59), (28, 0x27), (29, 0x0f)],
-        (b"2024/GE/APE/BHZ.D", b"GE.APE..BHZ.D.2024.060"),
+        Some((b"2024/GE/APE/BHZ.D", b"GE.APE..BHZ.D.2024.060")),
     ),
     // A second 60 is the next minute's first moment.
     (
@@ -52,79 +53,59 @@ static PLACES: [(Changes<'static>, Place); 6] = [
             (25, 59),
             (26, 60),
         ],
-        (b"2024/GE/APE/BHZ.D", b"GE.APE..BHZ.D.2024.001"),
+        Some((b"2024/GE/APE/BHZ.D", b"GE.APE..BHZ.D.2024.001")),
     ),
     // A location, another network, and a log.
     (
         &[(13, b'0'), (14, b'1'), (18, b'X'), (19, b' '), (33, 0)],
-        (b"2024/X/APE/BHZ.L", b"X.APE.01.BHZ.L.2024.060"),
+        Some((b"2024/X/APE/BHZ.L", b"X.APE.01.BHZ.L.2024.060")),
     ),
+    // No place: points alone, a `/`, a NUL, spaces, no record, and a station and a network that nobody wants.
+    (&[(8, b'.'), (9, b'.'), (10, b' ')], None),
+    (&[(18, b'.'), (19, b' ')], None),
+    (&[(14, b'/')], None),
+    (&[(15, 0)], None),
+    (&[(15, b' '), (16, b' '), (17, b' ')], None),
+    (&[(0, b'x')], None),
+    (&[(9, b'Q')], None),
+    (&[(19, b'F')], None),
 ];
 
-/// Changes with which it has no place: its codes, a `/`, a NUL, nothing, no record, and a station and a network that
-/// nobody wants.
-static UNPLACED: [Changes<'static>; 8] = [
-    &[(8, b'.'), (9, b'.'), (10, b' ')],
-    &[(18, b'.'), (19, b' ')],
-    &[(14, b'/')],
-    &[(15, 0)],
-    &[(15, b' '), (16, b' '), (17, b' ')],
-    &[(0, b'x')],
-    &[(9, b'Q')],
-    &[(19, b'F')],
-];
-
-/// The stations whose records are put.
-fn stations(alloc: Global) -> Result<Vec<StationCodes>, AllocError> {
-    let mut stations = Vec::new(alloc);
-    stations.push(StationCodes::new(alloc, b"X", b"APE")?)?;
-    stations.push(StationCodes::new(alloc, b"GE", b"APE")?)?;
-    Ok(stations)
+/// An archive in memory of the records of two stations.
+fn new_archive(alloc: Global) -> Result<Archive<MemoryFolders>, AllocError> {
+    let stations = vec![in alloc;
+        StationCodes::new(alloc, b"X", b"APE")?,
+        StationCodes::new(alloc, b"GE", b"APE")?,
+    ]?;
+    Ok(Archive::new(alloc, MemoryFolders::new(alloc), stations))
 }
 
-/// An archive in memory to which one record was put; None if that failed.
-fn archive_of(alloc: Global, record: &[u8; 512]) -> Option<Archive<MemoryFolders>> {
-    let stations = stations(alloc).ok()?;
-    let mut archive = Archive::new(alloc, MemoryFolders::new(alloc), stations);
-    archive.put(record, &read(record).ok()).ok()?;
-    Some(archive)
-}
-
-/// Whether one record was put, and at that place.
-fn is_at(stored: &[Stored], place: Place, record: &[u8; 512]) -> bool {
-    match stored {
-        [one] => {
-            one.folder.as_slice() == place.0
-                && one.file.as_slice() == place.1
-                && &one.bytes == record
+/// Whether one record was put, and at that place; or none, if it has no place.
+fn is_at(stored: &[Stored], place: Option<Place>, record: &[u8; 512]) -> bool {
+    match (stored, place) {
+        ([one], Some((folder, file))) => {
+            one.folder.as_slice() == folder && one.file.as_slice() == file && &one.bytes == record
         }
+        ([], None) => true,
         _ => false,
     }
 }
 
-#[test]
-fn puts_a_record_by_its_stream_and_the_day_of_its_start(rt: HostRuntime) {
-    for (changes, place) in &PLACES {
-        let record = record_of(&HEAD, changes);
-        let archive = archive_of(rt.alloc(), &record);
-        assert!(rt;
-            archive.is_some_and(|archive| {
-                is_at(archive.folders().all(), *place, &record) && archive.unplaced() == 0
-            })
-        );
-    }
+/// Whether the record with those changes is put at its place, or counted as one without a place.
+fn is_placed(alloc: Global, changes: Changes<'_>, place: Option<Place>) -> Result<bool, Fail> {
+    let record = record_of(&HEAD, changes);
+    let mut archive = new_archive(alloc)?;
+    let is_put = archive.put(&record, &read(&record).ok()).is_ok();
+    let unplaced = u64::from(place.is_none());
+    Ok(is_put && is_at(archive.folders().all(), place, &record) && archive.unplaced() == unplaced)
 }
 
 #[test]
-fn puts_no_record_whose_codes_name_no_place(rt: HostRuntime) {
-    for changes in &UNPLACED {
-        let archive = archive_of(rt.alloc(), &record_of(&HEAD, changes));
-        assert!(rt;
-            archive.is_some_and(|archive| {
-                archive.folders().all().is_empty() && archive.unplaced() == 1
-            })
-        );
+fn puts_a_record_by_its_stream_and_the_day_of_its_start(rt: HostRuntime) -> Result<(), Fail> {
+    for (row, &(changes, place)) in PLACES.iter().enumerate() {
+        assert!(rt; is_placed(rt.alloc(), changes, place)?, "in row {row}");
     }
+    Ok(())
 }
 
 /// Ticks, and the day in which they lie.
@@ -139,13 +120,15 @@ static DAYS: [(i64, Option<(u16, u16)>); 8] = [
     (-621_355_968_000_001, None),
 ];
 
+/// The year of a tick, and the day in it.
+fn told(ticks: i64) -> Option<(u16, u16)> {
+    let DayOfYear { year, day } = day_of(Tick::new(ticks))?;
+    Some((year, day))
+}
+
 #[test]
 fn tells_the_day_of_a_moment(rt: HostRuntime) {
-    for (ticks, day) in &DAYS {
-        let told = match day_of(Tick::new(*ticks)) {
-            Some(DayOfYear { year, day }) => Some((year, day)),
-            None => None,
-        };
-        assert_eq!(rt; told, *day);
+    for &(ticks, day) in &DAYS {
+        assert!(rt; told(ticks) == day, "{ticks}");
     }
 }

@@ -33,59 +33,6 @@ fn name_asked(line: Line<'_>) -> &'static str {
     }
 }
 
-fn is_station(text: &str, station: &[u8], network: Option<&[u8]>) -> bool {
-    match command(Line::Text(text.as_bytes())) {
-        Command::Station {
-            station: code,
-            network: other,
-        } => code == station && other == network,
-        _ => false,
-    }
-}
-
-fn is_select(text: &str, pattern: Option<&[u8]>) -> bool {
-    match command(Line::Text(text.as_bytes())) {
-        Command::Select { pattern: told } => told == pattern,
-        _ => false,
-    }
-}
-
-fn is_data(text: &str, number: Option<Seq>, begin: Option<Tick>) -> bool {
-    match command(Line::Text(text.as_bytes())) {
-        Command::Act(
-            Action::Data {
-                number: told,
-                begin: from,
-            },
-        ) => told == number && from == begin,
-        _ => false,
-    }
-}
-
-fn is_fetch(text: &str, number: Option<Seq>, begin: Option<Tick>) -> bool {
-    match command(Line::Text(text.as_bytes())) {
-        Command::Act(
-            Action::Fetch {
-                number: told,
-                begin: from,
-            },
-        ) => told == number && from == begin,
-        _ => false,
-    }
-}
-
-fn is_time(text: &str, begin: Option<Tick>, last: Option<Tick>) -> bool {
-    match command(Line::Text(text.as_bytes())) {
-        Command::Act(
-            Action::Time {
-                begin: from,
-                last: to,
-            },
-        ) => from == begin && to == last,
-        _ => false,
-    }
-}
-
 /// Lines, and the names of the commands that they are.
 static NAMES: [(&str, &str); 52] = [
     ("HELLO", "hello"),
@@ -152,48 +99,100 @@ fn lines_are_commands_by_their_names(rt: HostRuntime) {
     assert!(rt; name_asked(Line::TooLong) == "bad");
 }
 
-#[test]
-fn stations_and_patterns(rt: HostRuntime) {
-    for text in ["STATION WLF", "station WLF", "  Station   WLF  "] {
-        assert!(rt; is_station(text, b"WLF", None), "{text}");
-    }
-    for text in ["STATION wlf GE", "station wlf GE", " station  wlf   GE "] {
-        assert!(rt; is_station(text, b"wlf", Some(b"GE")), "{text}");
-    }
-    for text in ["SELECT", "select "] {
-        assert!(rt; is_select(text, None), "{text}");
-    }
-    for text in ["SELECT !BH?.D", "select  !BH?.D"] {
-        assert!(rt; is_select(text, Some(b"!BH?.D")), "{text}");
+/// What a line asks, in numbers.
+enum Asked {
+    Station(&'static [u8], Option<&'static [u8]>),
+    Select(Option<&'static [u8]>),
+    Data(Option<u32>, Option<i64>),
+    Fetch(Option<u32>, Option<i64>),
+    Time(Option<i64>, Option<i64>),
+}
+
+/// Whether a number is meant.
+fn is_number(number: Option<Seq>, wanted: Option<u32>) -> bool {
+    match (number, wanted) {
+        (Some(number), Some(value)) => number.value() == value,
+        (None, None) => true,
+        _ => false,
     }
 }
 
-#[test]
-fn numbers(rt: HostRuntime) {
-    assert!(rt; is_data("DATA", None, None));
-    assert!(rt; is_data("data", None, None));
-    assert!(rt; is_data("DATA fF", Seq::of(255), None));
-    assert!(rt; is_data("data 0000a3", Seq::of(163), None));
-    assert!(rt; is_fetch("FETCH", None, None));
-    assert!(rt; is_fetch("fetch FFFFFF", Seq::of(0xff_ffff), None));
+/// Whether a moment is meant.
+fn is_moment(moment: Option<Tick>, wanted: Option<i64>) -> bool {
+    match (moment, wanted) {
+        (Some(tick), Some(value)) => tick.value() == value,
+        (None, None) => true,
+        _ => false,
+    }
 }
 
-/// The first moment of 2024-02-29, and some seconds.
-fn leap_day(seconds: u8) -> Option<Tick> {
-    Some(Tick::new(17_091_648_000_000 + 10_000 * i64::from(seconds)))
+/// Whether an action asks that.
+fn is_acted(action: Action, asked: &Asked) -> bool {
+    match (action, asked) {
+        (Action::Data { number, begin }, Asked::Data(value, tick)) => {
+            is_number(number, *value) && is_moment(begin, *tick)
+        }
+        (Action::Fetch { number, begin }, Asked::Fetch(value, tick)) => {
+            is_number(number, *value) && is_moment(begin, *tick)
+        }
+        (Action::Time { begin, last }, Asked::Time(from, to)) => {
+            is_moment(begin, *from) && is_moment(last, *to)
+        }
+        _ => false,
+    }
 }
 
+/// Whether a line asks that.
+fn is_asked(text: &str, asked: &Asked) -> bool {
+    match (command(Line::Text(text.as_bytes())), asked) {
+        (Command::Station { station, network }, Asked::Station(code, other)) => {
+            station == *code && network == *other
+        }
+        (Command::Select { pattern }, Asked::Select(other)) => pattern == *other,
+        (Command::Act(action), asked) => is_acted(action, asked),
+        _ => false,
+    }
+}
+
+/// The first moment of 2024-02-29, and ten seconds later.
+const LEAP_DAY: i64 = 17_091_648_000_000;
+
+const LATER: i64 = LEAP_DAY + 100_000;
+
+/// Lines, and what they ask.
+static ASKED: [(&str, Asked); 21] = [
+    ("STATION WLF", Asked::Station(b"WLF", None)),
+    ("station WLF", Asked::Station(b"WLF", None)),
+    ("  Station   WLF  ", Asked::Station(b"WLF", None)),
+    ("STATION wlf GE", Asked::Station(b"wlf", Some(b"GE"))),
+    ("station wlf GE", Asked::Station(b"wlf", Some(b"GE"))),
+    (" station  wlf   GE ", Asked::Station(b"wlf", Some(b"GE"))),
+    ("SELECT", Asked::Select(None)),
+    ("select ", Asked::Select(None)),
+    ("SELECT !BH?.D", Asked::Select(Some(b"!BH?.D"))),
+    ("select  !BH?.D", Asked::Select(Some(b"!BH?.D"))),
+    ("DATA", Asked::Data(None, None)),
+    ("data", Asked::Data(None, None)),
+    ("DATA fF", Asked::Data(Some(255), None)),
+    ("data 0000a3", Asked::Data(Some(163), None)),
+    ("FETCH", Asked::Fetch(None, None)),
+    ("fetch FFFFFF", Asked::Fetch(Some(0xff_ffff), None)),
+    ("data 0 2024,2,29", Asked::Data(Some(0), Some(LEAP_DAY))),
+    (
+        "Fetch 10 2024,02,29,00",
+        Asked::Fetch(Some(16), Some(LEAP_DAY)),
+    ),
+    ("TIME", Asked::Time(None, None)),
+    ("time 2024,2,29", Asked::Time(Some(LEAP_DAY), None)),
+    (
+        "TIME 2024,2,29,0,0,0 2024,2,29,0,0,10",
+        Asked::Time(Some(LEAP_DAY), Some(LATER)),
+    ),
+];
+
 #[test]
-fn times(rt: HostRuntime) {
-    assert!(rt; is_data("data 0 2024,2,29", Seq::of(0), leap_day(0)));
-    assert!(rt; is_fetch("Fetch 10 2024,02,29,00", Seq::of(16), leap_day(0)));
-    assert!(rt; is_time("TIME", None, None));
-    assert!(rt; is_time("time 2024,2,29", leap_day(0), None));
-    assert!(rt;
-        is_time(
-            "TIME 2024,2,29,0,0,0 2024,2,29,0,0,10",
-            leap_day(0),
-            leap_day(10)
-        )
-    );
+fn lines_ask_what_their_words_say(rt: HostRuntime) {
+    for (text, asked) in &ASKED {
+        assert!(rt; is_asked(text, asked), "{text}");
+    }
 }

@@ -30,55 +30,47 @@ fn lines_of_two(alloc: Global, first: &[u8], second: &[u8]) -> Result<Vec<u8>, A
     Ok(lines)
 }
 
+/// Bytes, and their lines.
+static LINES: [(&[u8], &[u8]); 7] = [
+    (b"HELLO\rCAT\rBYE\r", b"HELLO/CAT/BYE/"),
+    (b"HELLO\nCAT\nBYE\n", b"HELLO/CAT/BYE/"),
+    (b"HELLO\r\nCAT\r\nBYE\r\n", b"HELLO/CAT/BYE/"),
+    // Only an end makes a line.
+    (b"HELLO", b""),
+    (b"\r\n\n\r", b""),
+    (b"\n\rA\n\r\nB", b"A/"),
+    (b"A\tB \0\n", b"A\tB \0/"),
+];
+
 #[test]
 fn pieces_do_not_matter(rt: HostRuntime) -> Result<(), Fail> {
-    let three = [
-        b"HELLO\rCAT\rBYE\r".as_slice(),
-        b"HELLO\nCAT\nBYE\n".as_slice(),
-        b"HELLO\r\nCAT\r\nBYE\r\n".as_slice(),
-    ];
-    for bytes in three {
+    for &(bytes, want) in &LINES {
         for at in 0..=bytes.len() {
             let lines = lines_of_two(rt.alloc(), &bytes[..at], &bytes[at..])?;
-            assert_eq!(rt; lines.as_slice(), b"HELLO/CAT/BYE/".as_slice(), "at {at}");
+            assert!(rt; lines.as_slice() == want, "at {at}");
         }
     }
     Ok(())
 }
 
-#[test]
-fn only_an_end_makes_a_line(rt: HostRuntime) -> Result<(), Fail> {
-    for (bytes, want) in [
-        ("HELLO", ""),
-        ("\r\n\n\r", ""),
-        ("\n\rA\n\r\nB", "A/"),
-        ("A\tB \0\n", "A\tB \0/"),
-    ] {
-        let lines = lines_of_two(rt.alloc(), bytes.as_bytes(), b"")?;
-        assert_eq!(rt; lines.as_slice(), want.as_bytes());
-    }
-    Ok(())
-}
+/// More letters than a line has.
+static LETTERS: [u8; 600] = [b'A'; 600];
 
-/// The lines of that many letters, and of one more line.
-fn lines_of_letters(alloc: Global, length: usize) -> Result<Vec<u8>, AllocError> {
-    let letters = vec![in alloc; b'A'; length]?;
-    lines_of_two(alloc, letters.as_slice(), b"\r\nB\n")
-}
+/// How many letters, and the beginning and the length of their line with another one: a line of 256 letters is taken.
+static LENGTHS: [(usize, &[u8], usize); 4] = [
+    (256, b"AAAA", 259),
+    (257, b"(too long)/", 13),
+    (258, b"(too long)/", 13),
+    (600, b"(too long)/", 13),
+];
 
 #[test]
 fn lines_have_up_to_256_bytes(rt: HostRuntime) -> Result<(), Fail> {
-    let mut want = vec![in rt.alloc(); b'A'; 256]?;
-    want.extend_from_slice(b"/B/")?;
-    let whole = lines_of_letters(rt.alloc(), 256)?;
-    assert!(rt; whole.as_slice() == want.as_slice());
-    for length in [257, 258, 600] {
-        let lines = lines_of_letters(rt.alloc(), length)?;
-        assert_eq!(rt;
-            lines.as_slice(),
-            b"(too long)/B/".as_slice(),
-            "{length} bytes"
-        );
+    for &(length, beginning, count) in &LENGTHS {
+        let letters = LETTERS.get(..length).unwrap_or(b"");
+        let lines = lines_of_two(rt.alloc(), letters, b"\r\nB\n")?;
+        let is_right = lines.len() == count && lines.starts_with(beginning);
+        assert!(rt; is_right && lines.ends_with(b"/B/"), "{length} bytes");
     }
     Ok(())
 }

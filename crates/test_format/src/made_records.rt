@@ -1,8 +1,7 @@
 //! Records as they are made.
-use crate::reasons::is_reason;
 use crate::worked::{HEAD, record_of};
-use mseed_header::{ByteOrder, FieldFault, Fields, Header, Kind, make, read};
-use sl_time::{Tick, of_btime};
+use mseed_header::{ByteOrder, FieldFault, Fields, Header, make, read};
+use sl_time::of_btime;
 
 /// The fields of the worked record.
 const FIRST: Fields<'static> = Fields {
@@ -32,139 +31,136 @@ fn makes_the_worked_record(rt: HostRuntime) {
     assert_eq!(rt; make(&FIRST), Ok(record_of(&HEAD, &[])));
 }
 
-/// Whether fields are refused for one that is out of range.
-fn is_refused(fields: Fields<'_>) -> bool {
-    make(&fields) == Err(FieldFault::Field)
-}
-
-/// Those fields with other codes.
-fn with_codes(
-    station: &'static [u8],
-    location: &'static [u8],
-    channel: &'static [u8],
-    network: &'static [u8],
-) -> Fields<'static> {
+/// Fields of which one is out of range.
+static REFUSED: [Fields<'static>; 18] = [
     Fields {
-        station,
-        location,
-        channel,
-        network,
+        station: b"",
         ..FIRST
-    }
-}
-
-#[test]
-fn refuses_codes_that_are_none(rt: HostRuntime) {
-    let codes: [(&[u8], &[u8], &[u8], &[u8]); 5] = [
-        (b"", b"", b"BHZ", b"GE"),
-        (b"STATIO", b"", b"BHZ", b"GE"),
-        (b"APE", b"001", b"BHZ", b"GE"),
-        (b"APE", b"", b"bhz", b"GE"),
-        (b"APE", b"", b"BHZ", b"G E"),
-    ];
-    for (row, (station, location, channel, network)) in codes.into_iter().enumerate() {
-        let fields = with_codes(station, location, channel, network);
-        assert!(rt; is_refused(fields), "in row {row}");
-    }
-}
-
-/// Those fields with another start.
-fn with_start(year: u16, day: u16, time: (u8, u8, u8), fraction: u16) -> Fields<'static> {
-    let (hour, minute, second) = time;
+    },
     Fields {
-        year,
-        day,
-        hour,
-        minute,
-        second,
-        fraction,
+        station: b"STATIO",
         ..FIRST
-    }
-}
-
-#[test]
-fn refuses_starts_that_are_none(rt: HostRuntime) {
-    for (row, (year, day, time, fraction)) in [
-        (1899, 60, (0, 0, 0), 0),
-        (2024, 367, (0, 0, 0), 0),
-        (2024, 60, (24, 0, 0), 0),
-        (2024, 60, (0, 60, 0), 0),
-        (2024, 60, (0, 0, 61), 0),
-        (2024, 60, (0, 0, 0), 10_000),
-    ]
-    .into_iter()
-    .enumerate()
-    {
-        let fields = with_start(year, day, time, fraction);
-        assert!(rt; is_refused(fields), "in row {row}");
-    }
-}
-
-#[test]
-fn refuses_other_fields_out_of_range(rt: HostRuntime) {
-    let sequence = 1_000_000;
-    assert!(rt; is_refused(Fields { sequence, ..FIRST }));
-    let quality = b'X';
-    assert!(rt; is_refused(Fields { quality, ..FIRST }));
-    let extra = Some(1000);
-    assert!(rt; is_refused(Fields { extra, ..FIRST }));
-    let contents = &[0; 449];
-    assert!(rt; is_refused(Fields { contents, ..FIRST }));
-}
-
-#[test]
-fn a_refusal_of_fields_has_a_number_and_a_name(rt: HostRuntime) {
-    assert!(rt; is_reason(FieldFault::Field.reason(), 8, "Field"));
-}
-
-/// Whether a record is made of that day of 2056 in an order of bytes.
-fn is_made(day: u16, order: ByteOrder) -> bool {
-    make(&Fields {
+    },
+    Fields {
+        location: b"001",
+        ..FIRST
+    },
+    Fields {
+        channel: b"bhz",
+        ..FIRST
+    },
+    Fields {
+        network: b"G E",
+        ..FIRST
+    },
+    Fields {
+        year: 1899,
+        ..FIRST
+    },
+    Fields { day: 367, ..FIRST },
+    Fields { hour: 24, ..FIRST },
+    Fields {
+        minute: 60,
+        ..FIRST
+    },
+    Fields {
+        second: 61,
+        ..FIRST
+    },
+    Fields {
+        fraction: 10_000,
+        ..FIRST
+    },
+    Fields {
+        sequence: 1_000_000,
+        ..FIRST
+    },
+    Fields {
+        quality: b'X',
+        ..FIRST
+    },
+    Fields {
+        extra: Some(1000),
+        ..FIRST
+    },
+    Fields {
+        contents: &[0; 449],
+        ..FIRST
+    },
+    // Three days that can't be told from others in little order.
+    Fields {
+        order: ByteOrder::Little,
         year: 2056,
-        day,
-        order,
+        day: 1,
         ..FIRST
-    })
-    .is_ok()
+    },
+    Fields {
+        order: ByteOrder::Little,
+        year: 2056,
+        day: 256,
+        ..FIRST
+    },
+    Fields {
+        order: ByteOrder::Little,
+        year: 2056,
+        day: 257,
+        ..FIRST
+    },
+];
+
+/// Fields whose days are near those.
+static TAKEN: [Fields<'static>; 6] = [
+    Fields {
+        order: ByteOrder::Little,
+        year: 2056,
+        day: 2,
+        ..FIRST
+    },
+    Fields {
+        order: ByteOrder::Little,
+        year: 2056,
+        day: 255,
+        ..FIRST
+    },
+    Fields {
+        order: ByteOrder::Little,
+        year: 2056,
+        day: 258,
+        ..FIRST
+    },
+    Fields {
+        year: 2056,
+        day: 1,
+        ..FIRST
+    },
+    Fields {
+        year: 2056,
+        day: 256,
+        ..FIRST
+    },
+    Fields {
+        year: 2056,
+        day: 257,
+        ..FIRST
+    },
+];
+
+/// How many of some fields a record is made of.
+fn made_of(all: &[Fields<'_>]) -> usize {
+    let mut count: usize = 0;
+    for fields in all {
+        if make(fields).is_ok() {
+            count = count.saturating_add(1);
+        }
+    }
+    count
 }
 
 #[test]
-fn refuses_three_days_in_little_order(rt: HostRuntime) {
-    for (day, makes) in [
-        (1, false),
-        (2, true),
-        (255, true),
-        (256, false),
-        (257, false),
-        (258, true),
-    ] {
-        assert!(rt; is_made(day, ByteOrder::Big), "at day {day}");
-        assert!(rt; is_made(day, ByteOrder::Little) == makes, "at day {day}");
-    }
-}
-
-/// The type of a record without samples, and with a blockette.
-fn kind_with(extra: Option<u16>) -> Option<Kind> {
-    let fields = Fields {
-        samples: 0,
-        factor: 0,
-        extra,
-        ..FIRST
-    };
-    Some(read(&make(&fields).ok()?).ok()?.kind())
-}
-
-#[test]
-fn gives_a_record_without_samples_its_kind(rt: HostRuntime) {
-    for (extra, kind) in [
-        (None, Kind::D),
-        (Some(201), Kind::E),
-        (Some(395), Kind::C),
-        (Some(500), Kind::T),
-        (Some(2000), Kind::O),
-    ] {
-        assert!(rt; kind_with(extra) == Some(kind), "{extra:?}");
-    }
+fn refuses_fields_out_of_range_alone(rt: HostRuntime) {
+    assert!(rt; make(&REFUSED[0]) == Err(FieldFault::Field));
+    assert_eq!(rt; made_of(&REFUSED), 0);
+    assert_eq!(rt; made_of(&TAKEN), 6);
 }
 
 /// Fields that differ from row to row.
@@ -198,28 +194,28 @@ fn has_codes(header: &Header<'_>, fields: &Fields<'_>) -> bool {
         && header.network() == fields.network
         && header.location().starts_with(fields.location)
         && header.channel().starts_with(fields.channel)
+        && header.samples() == fields.samples
 }
 
-/// The start that fields name.
-fn start_of(fields: &Fields<'_>) -> Option<Tick> {
-    of_btime(
+/// Whether a header has the start that fields name.
+fn has_start(header: &Header<'_>, fields: &Fields<'_>) -> bool {
+    let start = of_btime(
         fields.year,
         fields.day,
         fields.hour,
         fields.minute,
         fields.second,
         fields.fraction,
-    )
+    );
+    Some(header.start()) == start
 }
 
 /// Whether the record that is made of fields is read as they are.
 fn is_read_back(fields: &Fields<'_>) -> bool {
-    let record = make(fields).unwrap_or([0; 512]);
-    read(&record).is_ok_and(|header| {
-        has_codes(&header, fields)
-            && Some(header.start()) == start_of(fields)
-            && header.samples() == fields.samples
-    })
+    match read(&make(fields).unwrap_or([0; 512])) {
+        Ok(header) => has_codes(&header, fields) && has_start(&header, fields),
+        Err(_) => false,
+    }
 }
 
 #[test]

@@ -1,17 +1,11 @@
 //! Times of commands, and starts of records.
-use crate::reasons::is_reason;
-use sl_time::{Tick, TimeFault, of_btime, parse};
+use sl_time::{Tick, of_btime, parse};
 
 fn ticks_of(text: &[u8]) -> Result<i64, u8> {
     match parse(text) {
         Ok(tick) => Ok(tick.value()),
         Err(fault) => Err(fault.reason().number()),
     }
-}
-
-fn ticks_of_start(year: u16, day: u16, second: u8, fraction: u16) -> Option<i64> {
-    let (hour, minute) = if second == 0 { (0, 0) } else { (23, 59) };
-    Some(of_btime(year, day, hour, minute, second, fraction)?.value())
 }
 
 /// Texts, and the ticks of their times or the number of their fault.
@@ -63,53 +57,39 @@ fn texts_are_times_or_none(rt: HostRuntime) {
     }
 }
 
-/// Years, days, seconds and fractions of starts, and their ticks.
-static STARTS: [(u16, u16, u8, u16, i64); 7] = [
-    (2024, 60, 0, 0, 17_091_648_000_000),
-    (1900, 1, 0, 0, -22_089_888_000_000),
-    (1900, 60, 0, 0, -22_038_912_000_000),
-    (1900, 366, 0, 0, -21_774_528_000_000),
-    (2000, 366, 59, 9999, 9_783_071_999_999),
-    (2100, 365, 60, 9999, 41_339_808_009_999),
-    (2100, 366, 0, 0, 41_339_808_000_000),
+/// Years, days, hours, minutes, seconds and fractions of starts, and their ticks if they are one.
+static STARTS: [(u16, u16, u8, u8, u8, u16, Option<i64>); 16] = [
+    (2024, 60, 0, 0, 0, 0, Some(17_091_648_000_000)),
+    (1900, 1, 0, 0, 0, 0, Some(-22_089_888_000_000)),
+    (1900, 60, 0, 0, 0, 0, Some(-22_038_912_000_000)),
+    (1900, 366, 0, 0, 0, 0, Some(-21_774_528_000_000)),
+    (1970, 1, 0, 0, 0, 1, Some(1)),
+    (2000, 366, 23, 59, 59, 9999, Some(9_783_071_999_999)),
+    (2100, 365, 23, 59, 60, 9999, Some(41_339_808_009_999)),
+    (2100, 366, 0, 0, 0, 0, Some(41_339_808_000_000)),
+    (1899, 365, 0, 0, 0, 0, None),
+    (2101, 1, 0, 0, 0, 0, None),
+    (2024, 0, 0, 0, 0, 0, None),
+    (2024, 367, 0, 0, 0, 0, None),
+    (2024, 1, 24, 0, 0, 0, None),
+    (2024, 1, 0, 60, 0, 0, None),
+    (2024, 1, 0, 0, 61, 0, None),
+    (2024, 1, 0, 0, 0, 10_000, None),
 ];
+
+/// Whether a start has these ticks, or none.
+fn has_ticks(start: Option<Tick>, wanted: Option<i64>) -> bool {
+    match (start, wanted) {
+        (Some(tick), Some(ticks)) => tick.value() == ticks,
+        (None, None) => true,
+        _ => false,
+    }
+}
 
 #[test]
 fn the_start_of_a_record_gives_its_ticks(rt: HostRuntime) {
-    for &(year, day, second, fraction, ticks) in &STARTS {
-        let given = ticks_of_start(year, day, second, fraction);
-        assert!(rt; given == Some(ticks), "{year} {day}");
+    for &(year, day, hour, minute, second, fraction, ticks) in &STARTS {
+        let start = of_btime(year, day, hour, minute, second, fraction);
+        assert!(rt; has_ticks(start, ticks), "{year} {day}");
     }
-}
-
-/// Years, days, hours, minutes, seconds and fractions that are no start.
-static NO_STARTS: [(u16, u16, u8, u8, u8, u16); 8] = [
-    (1899, 365, 0, 0, 0, 0),
-    (2101, 1, 0, 0, 0, 0),
-    (2024, 0, 0, 0, 0, 0),
-    (2024, 367, 0, 0, 0, 0),
-    (2024, 1, 24, 0, 0, 0),
-    (2024, 1, 0, 60, 0, 0),
-    (2024, 1, 0, 0, 61, 0),
-    (2024, 1, 0, 0, 0, 10_000),
-];
-
-#[test]
-fn a_start_out_of_range_is_none(rt: HostRuntime) {
-    for &(year, day, hour, minute, second, fraction) in &NO_STARTS {
-        let given = of_btime(year, day, hour, minute, second, fraction);
-        assert!(rt; given.is_none(), "{year} {day}");
-    }
-}
-
-#[test]
-fn ticks_are_ordered_in_time(rt: HostRuntime) {
-    assert!(rt; Tick::new(-1) < Tick::new(0) && Tick::new(7) == Tick::new(7));
-    assert!(rt; of_btime(1970, 1, 0, 0, 0, 1) == Some(Tick::new(1)));
-}
-
-#[test]
-fn the_faults_have_names(rt: HostRuntime) {
-    assert!(rt; is_reason(TimeFault::Shape.reason(), 60, "Shape"));
-    assert!(rt; is_reason(TimeFault::Range.reason(), 61, "Range"));
 }

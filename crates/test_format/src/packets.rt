@@ -1,8 +1,8 @@
 //! Streams of packets by the piece.
 ghost use Rattle.std.specs.Prelude.{◌<◌};
 
-use crate::reasons::is_reason;
-use sl_packet::{Cut, Fed, NotAPacket, PacketCutter, Seq, frame};
+use crate::worked::{HEAD, record_of};
+use sl_packet::{Cut, Fed, PacketCutter, Seq, frame};
 use std::alloc::{AllocError, Global};
 use std::test::Fail;
 
@@ -80,36 +80,25 @@ fn cut_in_pieces(alloc: Global, bytes: &[u8], size: usize) -> Result<(Seen, usiz
     Ok((seen, cutter.rest()))
 }
 
+/// Whether three packets and an end are cut out of bytes in pieces of a size, and nothing rests.
+fn is_cut(alloc: Global, bytes: &[u8], size: usize) -> Result<bool, AllocError>
+    requires { 0 < size }
+{
+    let (seen, rest) = cut_in_pieces(alloc, bytes, size)?;
+    let are_whole = seen.packets.len() == 1_560 && bytes.starts_with(seen.packets.as_slice());
+    Ok(are_whole && (seen.count, seen.ends, seen.faults, rest) == (3, 1, 0, 0))
+}
+
+static SIZES: [usize; 6] = [1, 7, 519, 520, 521, 1_563];
+
 #[test]
 fn pieces_do_not_matter(rt: HostRuntime) -> Result<(), Fail> {
     let bytes = three_packets(rt.alloc())?;
-    let (packets, _) = bytes.as_slice().split_at(bytes.len().min(1_560));
-    assert_eq!(rt; packets.len(), 1_560);
-    for size in [1, 7, 519, 520, 521, 1_563] {
-        assert!(rt; 0 < size);
-        let (seen, rest) = cut_in_pieces(rt.alloc(), bytes.as_slice(), size)?;
-        let counts = (seen.count, seen.ends, seen.faults, rest);
-        assert!(rt; counts == (3, 1, 0, 0), "in pieces of {size}");
-        assert!(rt; seen.packets.as_slice() == packets, "in pieces of {size}");
-    }
-    Ok(())
-}
-
-#[test]
-fn one_packet_is_lent_a_call(rt: HostRuntime) -> Result<(), Fail> {
-    let bytes = three_packets(rt.alloc())?;
-    let all = bytes.as_slice();
-    assert_eq!(rt; all.len(), 1_563);
-    let mut cutter = PacketCutter::new();
-    for (start, end, used, rest) in [
-        (0, 1_563, 520, 0),
-        (520, 720, 200, 200),
-        (720, 1_563, 320, 0),
-        (1_040, 1_042, 2, 2),
-    ] {
-        assert!(rt; start <= end && end <= 1_563);
-        assert_eq!(rt; cutter.feed(&all[start..end])?.used, used);
-        assert_eq!(rt; cutter.rest(), rest);
+    for &size in &SIZES {
+        assert!(rt;
+            0 < size && is_cut(rt.alloc(), &bytes, size)?,
+            "in pieces of {size}"
+        );
     }
     Ok(())
 }
@@ -145,34 +134,13 @@ fn short_streams_end_or_fail(rt: HostRuntime) -> Result<(), Fail> {
     Ok(())
 }
 
-/// A record of station APE of GE, channel BHZ, on day 60 of 2024, with 100 samples.
-fn record() -> [u8; 512] {
-    let mut record = [0; 512];
-    record[..20].copy_from_slice(b"000001D APE    BHZGE");
-    record[20..36].copy_from_slice(
-        b"\x07\xe8\x00\x3c\x00\x00\x00\x00\x00\x00\x00\x64\x00\x64\x00\x01",
-    );
-    record[36..48].copy_from_slice(b"\x00\x00\x00\x01\x00\x00\x00\x00\x00\x40\x00\x30");
-    record[48..56].copy_from_slice(b"\x03\xe8\x00\x00\x0b\x01\x09\x00");
-    record
+/// Whether the packet of a record has a beginning of its own, and the record after it.
+fn is_framed(number: u32, beginning: &[u8], record: &[u8; 512]) -> Option<bool> {
+    let packet = frame(Seq::of(number)?, record);
+    Some(packet.starts_with(beginning) && packet.ends_with(record))
 }
 
 #[test]
-fn a_framed_record_is_cut(rt: HostRuntime) -> Result<(), Fail> {
-    let packet = frame(Seq::of(163).ok_or("no number")?, &record());
-    assert!(rt; packet.starts_with(b"SL0000A3000001D APE    BHZGE"));
-    let mut cutter = PacketCutter::new();
-    let fed = cutter.feed(&packet)?;
-    assert!(rt;
-        match fed.cut {
-            Cut::Packet(told) => *told == packet,
-            _ => false,
-        }
-    );
-    Ok(())
-}
-
-#[test]
-fn the_fault_says_what_it_is(rt: HostRuntime) {
-    assert!(rt; is_reason(NotAPacket.reason(), 10, "NotAPacket"));
+fn a_record_is_framed(rt: HostRuntime) {
+    assert!(rt; is_framed(163, b"SL0000A3000001D APE", &record_of(&HEAD, &[])) == Some(true));
 }

@@ -1,15 +1,15 @@
 //! Patterns, and lists of them.
-use crate::reasons::is_reason;
 use protocol::record::Kind;
-use selector::{Full, Pattern, Pool};
+use selector::{Pattern, Pool};
 use std::alloc::Global;
 
 const PLACE: &[u8; 2] = b"00";
 
 const NO_PLACE: &[u8; 2] = b"  ";
 
-fn is_pattern(text: &[u8]) -> bool {
-    Pattern::parse(text).is_some()
+/// Whether a text is a negation, where it is a pattern.
+fn is_negation(text: &[u8]) -> Option<bool> {
+    Some(Pattern::parse(text)?.negated())
 }
 
 fn matches(text: &[u8], location: &[u8; 2], channel: &[u8; 3], kind: Kind) -> Option<bool> {
@@ -39,47 +39,48 @@ fn passes(alloc: Global, texts: &[&[u8]], channel: &[u8; 3], kind: Kind) -> Opti
     Some(pool.passes(0, PLACE, channel, kind))
 }
 
-/// Texts, and whether they are patterns.
-static PATTERNS: [(&[u8], bool); 33] = [
-    (b"BH?", true),
-    (b"!E", true),
-    (b"00BHZ.D", true),
-    (b"--LCQ", true),
-    (b"D", true),
-    (b".L", true),
-    (b"!.T", true),
-    (b"BHZ.C", true),
-    (b"!00bhz", true),
-    (b"??B?9.O", true),
-    (b"?-???", true),
-    (b"BH", false),
-    (b".Q", false),
-    (b"", false),
-    (b"!", false),
-    (b"Q", false),
-    (b"d", false),
-    (b"B-Z", false),
-    (b"BHZD", false),
-    (b"BHZ-D", false),
-    (b"00B.Z", false),
-    (b"00BHZD", false),
-    (b"00BHZ.Q", false),
-    (b"!!E", false),
-    (b"BHZ.?", false),
-    (b"BHZ.", false),
-    (b".", false),
-    (b"!.", false),
-    (b"BH Z", false),
-    (b"00BHZ.DD", false),
-    (b"?", false),
-    (b"??", false),
-    (b"????", false),
+/// Texts, and whether they are negations, if they are patterns.
+static PATTERNS: [(&[u8], Option<bool>); 34] = [
+    (b"BH?", Some(false)),
+    (b"!E", Some(true)),
+    (b"E", Some(false)),
+    (b"00BHZ.D", Some(false)),
+    (b"--LCQ", Some(false)),
+    (b"D", Some(false)),
+    (b".L", Some(false)),
+    (b"!.T", Some(true)),
+    (b"BHZ.C", Some(false)),
+    (b"!00bhz", Some(true)),
+    (b"??B?9.O", Some(false)),
+    (b"?-???", Some(false)),
+    (b"BH", None),
+    (b".Q", None),
+    (b"", None),
+    (b"!", None),
+    (b"Q", None),
+    (b"d", None),
+    (b"B-Z", None),
+    (b"BHZD", None),
+    (b"BHZ-D", None),
+    (b"00B.Z", None),
+    (b"00BHZD", None),
+    (b"00BHZ.Q", None),
+    (b"!!E", None),
+    (b"BHZ.?", None),
+    (b"BHZ.", None),
+    (b".", None),
+    (b"!.", None),
+    (b"BH Z", None),
+    (b"00BHZ.DD", None),
+    (b"?", None),
+    (b"??", None),
+    (b"????", None),
 ];
 
 #[test]
 fn texts_are_patterns_or_none(rt: HostRuntime) {
-    for (row, &(text, is_one)) in PATTERNS.iter().enumerate() {
-        assert!(rt; is_pattern(text) == is_one, "in row {row}");
+    for (row, &(text, is_negated)) in PATTERNS.iter().enumerate() {
+        assert!(rt; is_negation(text) == is_negated, "in row {row}");
     }
 }
 
@@ -112,17 +113,6 @@ fn each_part_matches_or_is_left_off(rt: HostRuntime) {
     }
 }
 
-/// Whether a text is a negation, where it is a pattern.
-fn is_negation(text: &[u8]) -> Option<bool> {
-    Some(Pattern::parse(text)?.negated())
-}
-
-#[test]
-fn a_negation_is_told(rt: HostRuntime) {
-    assert_eq!(rt; is_negation(b"!E"), Some(true));
-    assert_eq!(rt; is_negation(b"E"), Some(false));
-}
-
 /// Lists, what they are held against, and whether they let it pass.
 static PASSES: [(&[&[u8]], &[u8; 3], Kind, bool); 13] = [
     // A type alone means the same with its dot.
@@ -151,9 +141,4 @@ fn lists_let_pass_what_they_choose_and_do_not_negate(rt: HostRuntime) {
             "in row {row}"
         );
     }
-}
-
-#[test]
-fn a_full_list_has_a_number_and_a_name(rt: HostRuntime) {
-    assert!(rt; is_reason(Full.reason(), 62, "Full"));
 }

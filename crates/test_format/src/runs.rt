@@ -113,20 +113,43 @@ fn run(alloc: Global, before: Left, stop: Stop) -> Result<Left, AllocError> {
 /// How often a record stands in the files.
 fn count_of(all: &[NamedRecord], number: usize) -> usize {
     let wanted = record(number);
-    all.iter().filter(|one| one.bytes == wanted).count()
+    let mut count: usize = 0;
+    for one in all {
+        if one.bytes == wanted {
+            count = count.saturating_add(1);
+        }
+    }
+    count
 }
 
-/// Whether each record stands in the files once, and in order.
+/// Whether each record stands in the files once.
 fn are_once(all: &[NamedRecord]) -> bool {
-    all.len() == COUNT && (0..COUNT).all(|number| count_of(all, number) == 1)
+    for number in 0..COUNT {
+        if count_of(all, number) != 1 {
+            return false;
+        }
+    }
+    all.len() == COUNT
+}
+
+/// Whether those before a record that stand in its file have lower numbers.
+fn comes_after(one: &NamedRecord, before: &[NamedRecord]) -> bool {
+    for other in before {
+        if other.name.as_slice() == one.name.as_slice() && !is_before(other, one) {
+            return false;
+        }
+    }
+    true
 }
 
 /// Whether the records of each file stand in it in the order of their numbers.
 fn are_in_order(all: &[NamedRecord]) -> bool {
-    all.iter().enumerate().all(|(place, one)| {
-        all[..place].iter().all(|other| other.name.as_slice() != one.name.as_slice()
-            || is_before(other, one))
-    })
+    for (place, one) in all.iter().enumerate() {
+        if !comes_after(one, &all[..place]) {
+            return false;
+        }
+    }
+    true
 }
 
 /// Whether a record has a lower number.
@@ -147,36 +170,43 @@ fn after_two(alloc: Global, first: Stop, second: Stop) -> Result<Left, AllocErro
     run(alloc, left, END)
 }
 
-/// All ways to stop a reader.
-fn stops(alloc: Global) -> Result<Vec<Stop>, AllocError> {
-    let mut stops = Vec::new(alloc);
-    for is_power_lost in [false, true] {
-        for calls in 0..17u64 {
-            stops.push(Stop {
-                calls,
-                renames: UNENDING,
-                is_power_lost,
-            })?;
+/// How many ways there are to stop a reader, with and without a loss of power: before each of 17 calls, and before each
+/// of five times that its state takes the place of the last one.
+const STOPS: usize = 44;
+
+/// One of them.
+fn stop_at(number: usize) -> Stop {
+    let place = (number % 22) as u64;
+    let is_power_lost = number >= 22;
+    if place < 17 {
+        Stop {
+            calls: place,
+            renames: UNENDING,
+            is_power_lost,
         }
-        for renames in 0..5u64 {
-            stops.push(Stop {
-                calls: UNENDING,
-                renames,
-                is_power_lost,
-            })?;
+    } else {
+        Stop {
+            calls: UNENDING,
+            renames: place - 17,
+            is_power_lost,
         }
     }
-    Ok(stops)
+}
+
+/// Whether each record stands once and in order after two readers that are stopped.
+fn is_right_after(alloc: Global, first: usize, second: usize) -> Result<bool, AllocError> {
+    let left = after_two(alloc, stop_at(first), stop_at(second))?;
+    Ok(are_once(&left.all) && are_in_order(&left.all))
 }
 
 #[test]
 fn each_record_stands_once_however_two_readers_are_stopped(rt: HostRuntime) -> Result<(), Fail> {
-    let alloc = rt.alloc();
-    let stops = stops(alloc)?;
-    for first in &stops {
-        for second in &stops {
-            let left = after_two(alloc, *first, *second)?;
-            assert!(rt; are_once(&left.all) && are_in_order(&left.all));
+    for first in 0..STOPS {
+        for second in 0..STOPS {
+            assert!(rt;
+                is_right_after(rt.alloc(), first, second)?,
+                "{first} {second}"
+            );
         }
     }
     Ok(())
@@ -184,9 +214,12 @@ fn each_record_stands_once_however_two_readers_are_stopped(rt: HostRuntime) -> R
 
 /// Records, by their numbers, that are handed to one file one after the other.
 fn hand_all(files: &mut ContinuedFiles<MemoryFiles>, numbers: &[usize]) -> bool {
-    numbers
-        .iter()
-        .all(|number| files.hand("-", &record(*number)).is_ok())
+    for number in numbers {
+        if files.hand("-", &record(*number)).is_err() {
+            return false;
+        }
+    }
+    true
 }
 
 /// A file with these records, of which a state has counted so many.
@@ -210,11 +243,12 @@ fn file_with(
 
 /// Whether these records stand in the files, in that order.
 fn are(all: &[NamedRecord], numbers: &[usize]) -> bool {
+    for (one, number) in all.iter().zip(numbers) {
+        if one.bytes != record(*number) {
+            return false;
+        }
+    }
     all.len() == numbers.len()
-        && all
-            .iter()
-            .zip(numbers)
-            .all(|(one, number)| one.bytes == record(*number))
 }
 
 /// Numbers that stand in a file, how many of them a state counts, those that are handed then, what stands in the file
@@ -245,17 +279,29 @@ static CASES: [Case; 8] = [
     (&[0, 1], 0, &[0, 1, 2], &[0, 1, 2], 3),
 ];
 
+/// Whether a state would count so many of the only file.
+fn counts(files: &mut ContinuedFiles<MemoryFiles>, counted: u64) -> bool {
+    match files.last() {
+        Ok(lengths) => match lengths.as_slice() {
+            [length] => length.count() == counted,
+            _ => false,
+        },
+        Err(_) => false,
+    }
+}
+
+/// Whether a file is continued as a case says.
+fn is_continued(alloc: Global, case: &Case) -> Result<bool, AllocError> {
+    let (before, kept, handed, after, counted) = *case;
+    let mut files = file_with(alloc, before, kept)?;
+    let are_handed = hand_all(&mut files, handed);
+    Ok(are_handed && are(files.files().all(), after) && counts(&mut files, counted))
+}
+
 #[test]
 fn a_tail_is_passed_over_as_it_comes_again(rt: HostRuntime) -> Result<(), Fail> {
-    for (before, kept, handed, after, counted) in &CASES {
-        let mut files = file_with(rt.alloc(), before, *kept)?;
-        assert!(rt; hand_all(&mut files, handed));
-        assert!(rt; are(files.files().all(), after));
-        let Ok(lengths) = files.last() else {
-            return Err(Fail::from("no lengths"));
-        };
-        assert!(rt; lengths.iter().all(|length| length.count() == *counted));
-        assert_eq!(rt; lengths.len(), 1);
+    for (row, case) in CASES.iter().enumerate() {
+        assert!(rt; is_continued(rt.alloc(), case)?, "in row {row}");
     }
     Ok(())
 }

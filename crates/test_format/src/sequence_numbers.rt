@@ -5,10 +5,6 @@ fn value_of(text: &[u8]) -> Option<u32> {
     Some(Seq::parse(text)?.value())
 }
 
-fn digits_of(value: u32) -> Option<[u8; 6]> {
-    Some(Seq::of(value)?.digits())
-}
-
 /// Texts, and the numbers of which they are the digits.
 static TEXTS: [(&[u8], Option<u32>); 11] = [
     (b"0", Some(0)),
@@ -31,36 +27,28 @@ fn one_to_six_digits_of_either_case_are_read(rt: HostRuntime) {
     }
 }
 
-/// Numbers and their digits.
-static DIGITS: [(u32, &[u8; 6]); 4] = [
-    (0, b"000000"),
-    (0xA3, b"0000A3"),
-    (0xfedcba, b"FEDCBA"),
-    (0x987654, b"987654"),
+/// Numbers, and their digits and those of the next one, if they are numbers of packets.
+static NUMBERS: [(u32, Option<[[u8; 6]; 2]>); 8] = [
+    (0, Some([*b"000000", *b"000001"])),
+    (0xA3, Some([*b"0000A3", *b"0000A4"])),
+    (0xfedcba, Some([*b"FEDCBA", *b"FEDCBB"])),
+    (0x987654, Some([*b"987654", *b"987655"])),
+    (0xFFFFFE, Some([*b"FFFFFE", *b"FFFFFF"])),
+    // The number after the last is 0.
+    (0xFFFFFF, Some([*b"FFFFFF", *b"000000"])),
+    (0x1000000, None),
+    (u32::MAX, None),
 ];
 
-#[test]
-fn digits_are_six_in_upper_case(rt: HostRuntime) {
-    for &(number, digits) in &DIGITS {
-        assert!(rt; digits_of(number) == Some(*digits), "{number}");
-    }
+/// The digits of a number and of the next one.
+fn digits_of(value: u32) -> Option<[[u8; 6]; 2]> {
+    let number = Seq::of(value)?;
+    Some([number.digits(), number.next().digits()])
 }
 
 #[test]
-fn the_number_after_the_last_is_0(rt: HostRuntime) {
-    let last = Seq::of(0xFFFFFF);
-    assert!(rt; last.map(|number| number.next().digits()) == Some(*b"000000"));
-    assert!(rt; Seq::of(0xFFFFFE).map(|number| number.next()) == last);
-}
-
-#[test]
-fn numbers_are_below_two_to_the_24(rt: HostRuntime) {
-    for (number, is_one) in [
-        (0, true),
-        (0xFFFFFF, true),
-        (0x1000000, false),
-        (u32::MAX, false),
-    ] {
-        assert!(rt; Seq::of(number).is_some() == is_one, "{number}");
+fn numbers_below_two_to_the_24_have_six_digits(rt: HostRuntime) {
+    for &(number, digits) in &NUMBERS {
+        assert!(rt; digits_of(number) == digits, "{number}");
     }
 }

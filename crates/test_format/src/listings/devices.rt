@@ -15,72 +15,78 @@ fn records(alloc: Global, count: u32) -> Result<Vec<u8>, AllocError> {
     Ok(bytes)
 }
 
+/// The lines of so many records.
+fn lines(alloc: Global, count: u32) -> Result<String, Fail> {
+    let mut lines = String::new(alloc);
+    for number in 0..count {
+        write!(lines, "{} {FACTS}\n", number.saturating_add(1))?;
+    }
+    Ok(lines)
+}
+
+/// Whether a file's lines are these, and are written in two pieces.
+fn is_listed(alloc: Global, bytes: &[u8], wanted: &str) -> Result<bool, StreamFault> {
+    let mut sink = MemorySink::new(alloc);
+    let verdict = check_records(
+        alloc,
+        ListingOptions::lines(),
+        &AllStations,
+        &mut MemorySource::new(bytes),
+        &mut sink,
+    )?;
+    // About 53,000 bytes, of which 32,768 are enough to be written.
+    let is_written = sink.bytes() == wanted.as_bytes() && sink.counts().calls == 2;
+    Ok(verdict.is_none() && is_written)
+}
+
 #[test]
 fn lines_are_written_in_large_pieces(rt: HostRuntime) -> Result<(), Fail> {
     let bytes = records(rt.alloc(), 1_000)?;
-    let mut wanted = String::new(rt.alloc());
-    for number in 1..1_001 {
-        write!(wanted, "{number} {FACTS}\n")?;
-    }
-    for most in [512, 65_536] {
-        assert!(rt; 0 < most);
-        let mut source = MemorySource::in_pieces(&bytes, most);
-        let mut sink = MemorySink::new(rt.alloc());
-        let verdict = check_records(
-            rt.alloc(),
-            ListingOptions::lines(),
-            &AllStations,
-            &mut source,
-            &mut sink,
-        )?;
-        assert!(rt; verdict.is_none());
-        assert!(rt; sink.bytes() == wanted.as_bytes(), "{most} bytes a read");
-        // About 53,000 bytes, of which 32,768 are enough to be written.
-        assert_eq!(rt; sink.counts().calls, 2);
-    }
+    let wanted = lines(rt.alloc(), 1_000)?;
+    assert!(rt; is_listed(rt.alloc(), &bytes, wanted.as_str())?);
     Ok(())
 }
 
+/// Why a reader that fails after so many bytes ends a listing, and how many failures it counts.
+fn read_fault(alloc: Global, left: usize) -> (Option<StreamFault>, u64) {
+    let mut source = Outer::new(Breaking { left });
+    let mut sink = MemorySink::new(alloc);
+    let outcome = check_records(
+        alloc,
+        ListingOptions::lines(),
+        &AllStations,
+        &mut source,
+        &mut sink,
+    );
+    (outcome.err(), source.counts().failures)
+}
+
+/// The same of a writer.
+fn write_fault(alloc: Global, bytes: &[u8], left: usize) -> (Option<StreamFault>, u64) {
+    let mut sink = Outer::new(Breaking { left });
+    let outcome = check_records(
+        alloc,
+        ListingOptions::lines(),
+        &AllStations,
+        &mut MemorySource::new(bytes),
+        &mut sink,
+    );
+    (outcome.err(), sink.counts().failures)
+}
+
 #[test]
-fn a_reader_that_fails(rt: HostRuntime) -> Result<(), Fail> {
+fn a_reader_or_a_writer_that_fails_ends_a_listing(rt: HostRuntime) -> Result<(), Fail> {
     for left in [0, 100, 700] {
-        let mut source = Outer::new(Breaking { left });
-        let mut sink = MemorySink::new(rt.alloc());
-        let outcome = check_records(
-            rt.alloc(),
-            ListingOptions::lines(),
-            &AllStations,
-            &mut source,
-            &mut sink,
-        );
-        assert!(rt;
-            matches!(outcome, Err(StreamFault::Read)),
-            "after {left} bytes"
-        );
-        assert_eq!(rt; source.counts().failures, 1);
+        assert!(rt; matches!(read_fault(rt.alloc(), left), (Some(StreamFault::Read), 1)));
     }
-    Ok(())
-}
-
-#[test]
-fn a_writer_that_fails(rt: HostRuntime) -> Result<(), Fail> {
     let bytes = records(rt.alloc(), 1_000)?;
     for left in [0, 100, 40_000] {
-        let mut source = MemorySource::new(&bytes);
-        let mut sink = Outer::new(Breaking { left });
-        let outcome = check_records(
-            rt.alloc(),
-            ListingOptions::lines(),
-            &AllStations,
-            &mut source,
-            &mut sink,
-        );
         assert!(rt;
-            matches!(outcome, Err(StreamFault::Write)),
-            "after {left} bytes"
+            matches!(
+                write_fault(rt.alloc(), &bytes, left),
+                (Some(StreamFault::Write), 1)
+            )
         );
-        assert_eq!(rt; sink.counts().failures, 1);
-        assert_eq!(rt; sink.into_inner().left, 0);
     }
     Ok(())
 }
