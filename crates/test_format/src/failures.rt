@@ -9,8 +9,8 @@ use std::test::Fail;
 /// Three records.
 const FEED: usize = 1536;
 
-/// What a whole reading of a feed in pieces of 700 bytes answers where a read fails, and how many reads and failures are
-/// counted.
+/// What a whole reading of a feed in pieces of 700 bytes answers where a read fails, and how many reads and failures
+/// are counted.
 fn read(alloc: Global, feed: &[u8], due: u64) -> (Result<(), ReadFault>, [u64; 2]) {
     let mut source = Failing::new(MemorySource::in_pieces(feed, 700), due);
     let answer = match read_all(alloc, &mut source) {
