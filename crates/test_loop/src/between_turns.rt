@@ -1,49 +1,99 @@
 //! What a server asks and reports between its turns, over ports and answers in memory.
+use super::runs::ports;
 use catalog::Config;
 use memory_between::{MadeBetween, MemoryBetween};
-use memory_ports::{MemoryPorts, Script};
 use periods::Period;
 use serving::{Activity, Due, Refusal, Timetable, serve_between};
 use std::alloc::Global;
 use std::test::Fail;
 use test_centre::{CENTRE, FOREST_CLOSED, ISLAND_LARGER};
 
-/// What is asked in nine turns of a server that reads its configuration again after every second and reports after
-/// every third: after two it has other lists, after four another capacity, after six there is none, and after eight it
-/// is as it was.
-static ASKED: [&str; 9] = [
-    "configuration",
-    "report",
-    "configuration",
-    "different",
-    "no configuration",
-    "unread",
-    "report",
-    "the same configuration",
-    "report",
+/// What a server reads in place of its configuration.
+enum Reading {
+    Same,
+    Failing(u8),
+    Text(&'static [u8]),
+}
+
+/// A server at whose ports nothing happens.
+struct Case {
+    /// The configurations that are read, the last first.
+    readings: &'static [Reading],
+    /// Whether it is time to read the configuration, and to report, after each turn, the last first.
+    due: &'static [(bool, bool)],
+    turns: usize,
+    reread: Period,
+    report: Period,
+    /// What is asked.
+    asked: &'static [&'static str],
+}
+
+static CASES: [Case; 2] = [
+    // It reads its configuration again after every second of nine turns and reports after every third: after two it has
+    // other lists, after four another capacity, after six there is none, and after eight it is as it was.
+    Case {
+        readings: &[
+            Reading::Same,
+            Reading::Failing(7),
+            Reading::Text(ISLAND_LARGER),
+            Reading::Text(FOREST_CLOSED),
+        ],
+        due: &[],
+        turns: 9,
+        reread: Period::Turns(2),
+        report: Period::Turns(3),
+        asked: &[
+            "configuration",
+            "report",
+            "configuration",
+            "different",
+            "no configuration",
+            "unread",
+            "report",
+            "the same configuration",
+            "report",
+        ],
+    },
+    // After the second of four turns it is time to read it, after the third to report, and after the fourth both.
+    Case {
+        readings: &[Reading::Text(FOREST_CLOSED), Reading::Text(FOREST_CLOSED)],
+        due: &[(true, true), (false, true), (true, false), (false, false)],
+        turns: 4,
+        reread: Period::Seconds(60),
+        report: Period::Seconds(60),
+        asked: &[
+            "looked",
+            "looked",
+            "configuration",
+            "looked",
+            "report",
+            "looked",
+            "configuration",
+            "report",
+        ],
+    },
 ];
 
-/// What is asked in four turns of one at which after the second turn it is time to read it, after the third to report,
-/// and after the fourth both.
-static ASKED_BY_TIME: [&str; 8] = [
-    "looked",
-    "looked",
-    "configuration",
-    "looked",
-    "report",
-    "looked",
-    "configuration",
-    "report",
-];
+/// What a reading gives.
+fn given(alloc: Global, reading: &Reading) -> Result<Result<Option<Config>, u8>, Fail> {
+    Ok(match reading {
+        Reading::Same => Ok(None),
+        Reading::Failing(fault) => Err(*fault),
+        Reading::Text(text) => Ok(Some(Config::read(alloc, text)?)),
+    })
+}
 
-/// The configurations that are read, the last first.
-fn readings(alloc: Global) -> Result<Vec<Result<Option<Config>, u8>>, Fail> {
+/// The answers of a case.
+fn answers(alloc: Global, case: &Case) -> Result<MemoryBetween, Fail> {
     let mut readings = Vec::new(alloc);
-    readings.push(Ok(None))?;
-    readings.push(Err(7))?;
-    readings.push(Ok(Some(Config::read(alloc, ISLAND_LARGER)?)))?;
-    readings.push(Ok(Some(Config::read(alloc, FOREST_CLOSED)?)))?;
-    Ok(readings)
+    for reading in case.readings {
+        readings.push(given(alloc, reading)?)?;
+    }
+    let mut due = Vec::new(alloc);
+    for &(reread, report) in case.due {
+        due.push(Due { reread, report })?;
+    }
+    Ok(MemoryBetween::new(alloc, readings).with_due(due))
 }
 
 /// What a call was, in words. A report of a server at which nobody has come is a report.
@@ -70,62 +120,40 @@ fn words_of(made: &MadeBetween) -> &'static str {
     }
 }
 
-/// Runs a server at whose ports nothing happens, and keeps what it asked between its turns.
-fn run_over(alloc: Global, between: &mut MemoryBetween, timetable: Timetable) -> Result<(), Fail> {
-    let ports = MemoryPorts::new(alloc, Script::new(Vec::new(alloc), Vec::new(alloc)));
-    let config = Config::read(alloc, CENTRE)?;
-    let _ports = serve_between(alloc, config, ports, between, timetable)?;
-    Ok(())
+/// Whether these calls were made, in words.
+fn were_made(made: &[MadeBetween], wanted: &[&'static str]) -> bool {
+    for (call, words) in made.iter().zip(wanted) {
+        if words_of(call) != *words {
+            return false;
+        }
+    }
+    made.len() == wanted.len()
 }
 
-/// Whether these calls were made, in words.
-fn were_made(between: &MemoryBetween, wanted: &[&'static str]) -> bool {
-    let made = between.made();
-    made.len() == wanted.len()
-        && made
-            .iter()
-            .zip(wanted)
-            .all(|(call, words)| words_of(call) == *words)
+/// Whether a server asks what a case says, and is lent after each turn.
+fn is_asked(alloc: Global, case: &Case) -> Result<bool, Fail> {
+    let mut between = answers(alloc, case)?;
+    let timetable = Timetable {
+        turns: Some(case.turns),
+        reread: Some(case.reread),
+        report: Some(case.report),
+        keep: false,
+    };
+    let config = Config::read(alloc, CENTRE)?;
+    let _ports = serve_between(
+        alloc,
+        config,
+        ports(alloc, &[], &[])?,
+        &mut between,
+        timetable,
+    )?;
+    Ok(were_made(between.made(), case.asked) && between.watched() == case.turns as u64)
 }
 
 #[test]
 fn a_server_asks_and_reports_when_it_is_due(rt: HostRuntime) -> Result<(), Fail> {
-    let mut between = MemoryBetween::new(rt.alloc(), readings(rt.alloc())?);
-    let timetable = Timetable {
-        turns: Some(9),
-        reread: Some(Period::Turns(2)),
-        report: Some(Period::Turns(3)),
-        keep: false,
-    };
-    run_over(rt.alloc(), &mut between, timetable)?;
-    assert!(rt; were_made(&between, &ASKED));
-    assert_eq!(rt; between.watched(), 9);
-    Ok(())
-}
-
-/// What is due by time after each of four turns, the last first.
-fn times(alloc: Global) -> Result<Vec<Due>, Fail> {
-    let mut due = Vec::new(alloc);
-    for (reread, report) in [(true, true), (false, true), (true, false), (false, false)] {
-        due.push(Due { reread, report })?;
+    for (row, case) in CASES.iter().enumerate() {
+        assert!(rt; is_asked(rt.alloc(), case)?, "in row {row}");
     }
-    Ok(due)
-}
-
-#[test]
-fn a_server_asks_and_reports_when_it_is_time(rt: HostRuntime) -> Result<(), Fail> {
-    let mut readings = Vec::new(rt.alloc());
-    for _ in 0..2 {
-        readings.push(Ok(Some(Config::read(rt.alloc(), FOREST_CLOSED)?)))?;
-    }
-    let mut between = MemoryBetween::new(rt.alloc(), readings).with_due(times(rt.alloc())?);
-    let timetable = Timetable {
-        turns: Some(4),
-        reread: Some(Period::Seconds(60)),
-        report: Some(Period::Seconds(60)),
-        keep: false,
-    };
-    run_over(rt.alloc(), &mut between, timetable)?;
-    assert!(rt; were_made(&between, &ASKED_BY_TIME));
     Ok(())
 }

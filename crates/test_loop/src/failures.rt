@@ -1,9 +1,9 @@
 //! A loop of whose ports one call fails, each call in turn: what it costs is that port alone.
-use super::runs::{Row, at_loop, happenings, looped_over, pieces};
+use super::runs::ports;
 use catalog::Config;
 use event_loop::Loop;
-use memory_ports::{FailingPorts, MemoryPorts, PortScript, ReadAnswer, Script};
-use scenes::{SCENES, Scene};
+use memory_ports::{FailingPorts, MemoryPorts};
+use scenes::{BYTES, SCENES, Scene};
 use std::alloc::Global;
 use std::test::Fail;
 use test_centre::CENTRE;
@@ -31,11 +31,15 @@ struct Outcome {
 }
 
 /// The loop of a scene over ports of which the `due`-th call fails.
-fn failing(alloc: Global, scene: Scene, due: u64) -> Result<Loop<FailingPorts<MemoryPorts>>, Fail> {
+fn failing(
+    alloc: Global,
+    scene: &Scene,
+    due: u64,
+) -> Result<Loop<FailingPorts<MemoryPorts>>, Fail> {
     let rows = scene.rows(alloc)?;
-    let script = Script::new(happenings(alloc, rows.as_slice())?, scene.scripts(alloc)?);
-    let ports = FailingPorts::new(alloc, MemoryPorts::new(alloc, script), due);
-    Ok(Loop::new(alloc, Config::read(alloc, CENTRE)?, ports)?)
+    let ports = ports(alloc, rows.as_slice(), scene.wires)?;
+    let failing = FailingPorts::new(alloc, ports, due);
+    Ok(Loop::new(alloc, Config::read(alloc, CENTRE)?, failing)?)
 }
 
 /// How many of some turns could not hear what happened.
@@ -53,11 +57,11 @@ fn faults(all: &mut Loop<FailingPorts<MemoryPorts>>, turns: usize) -> usize {
 fn endings(
     alloc: Global,
     all: &Loop<FailingPorts<MemoryPorts>>,
-    ports: u64,
+    scene: &Scene,
 ) -> Result<Vec<Ending>, Fail> {
     let mut endings = Vec::new(alloc);
-    for port in 1..=ports {
-        let record = all.ports().record(alloc, port)?;
+    for wire in scene.wires {
+        let record = all.ports().record(alloc, wire.number)?;
         endings.push(Ending {
             taken: record.taken,
             is_shut: record.is_shut,
@@ -69,19 +73,19 @@ fn endings(
 /// What becomes of a scene at that loop.
 fn outcome_at(
     alloc: Global,
-    scene: Scene,
+    scene: &Scene,
     all: &mut Loop<FailingPorts<MemoryPorts>>,
 ) -> Result<Outcome, Fail> {
-    let faults = faults(all, scene.turns());
+    let faults = faults(all, scene.turns);
     Ok(Outcome {
-        endings: endings(alloc, all, scene.ports())?,
+        endings: endings(alloc, all, scene)?,
         faults,
         has_failed: all.ports().has_failed(),
     })
 }
 
 /// What becomes of a scene where the `due`-th call fails.
-fn run_with(alloc: Global, scene: Scene, due: u64) -> Result<Outcome, Fail> {
+fn run_with(alloc: Global, scene: &Scene, due: u64) -> Result<Outcome, Fail> {
     let mut all = failing(alloc, scene, due)?;
     outcome_at(alloc, scene, &mut all)
 }
@@ -109,99 +113,77 @@ fn cut_off(outcome: &Outcome, whole: &Outcome) -> Option<usize> {
     Some(count)
 }
 
-/// Whether a feed's port was shut, so that its records came no further, and each client has a beginning of what it was
-/// to have.
+/// Whether the port of the feed, which is the last, was shut, so that its records came no further, and each client has
+/// a beginning of what it was to have.
 fn lost_its_feed(outcome: &Outcome, whole: &Outcome) -> bool {
-    let feed_is_shut = outcome.endings.last().is_some_and(|feed| feed.is_shut);
+    let mut feed_is_shut = false;
+    for (one, other) in outcome.endings.iter().zip(whole.endings.iter()) {
+        if !other.taken.as_slice().starts_with(one.taken.as_slice()) {
+            return false;
+        }
+        feed_is_shut = one.is_shut;
+    }
     feed_is_shut
-        && outcome.endings.iter().zip(whole.endings.iter()).all(|(one, other)| other
-            .taken
-            .as_slice()
-            .starts_with(one.taken.as_slice()))
 }
 
 /// Whether a failure cost one turn its hearing and nothing else, or one client's port, or the feed's.
-fn costs_one_port(scene: Scene, outcome: &Outcome, whole: &Outcome) -> bool {
+fn costs_one_port(scene: &Scene, outcome: &Outcome, whole: &Outcome) -> bool {
     match (outcome.faults, cut_off(outcome, whole)) {
         (1, Some(0)) => true,
         (0, Some(1)) => true,
-        (0, None) => scene.has_feed() && lost_its_feed(outcome, whole),
+        (0, None) => scene.has_feed && lost_its_feed(outcome, whole),
         _ => false,
     }
 }
 
+/// Whether without a failure each port takes as many bytes as the scene says, and none is shut.
+fn is_whole(scene: &Scene, whole: &Outcome) -> bool {
+    for (one, length) in whole.endings.iter().zip(scene.lengths) {
+        if one.is_shut || one.taken.len() != *length {
+            return false;
+        }
+    }
+    whole.faults == 0 && whole.endings.len() == scene.lengths.len()
+}
+
 /// The first call of a scene whose failure costs more than its port, and how many calls were tried.
-fn first_that_costs_more(alloc: Global, scene: Scene) -> Result<(Option<u64>, u64), Fail> {
-    let whole = run_with(alloc, scene, 0)?;
+fn first_that_costs_more(
+    alloc: Global,
+    scene: &Scene,
+    whole: &Outcome,
+) -> Result<(Option<u64>, u64), Fail> {
     for due in 1..10_000 {
         let tried = run_with(alloc, scene, due)?;
         if !tried.has_failed {
             return Ok((None, due));
         }
-        if !costs_one_port(scene, &tried, &whole) {
+        if !costs_one_port(scene, &tried, whole) {
             return Ok((Some(due), due));
         }
     }
     Ok((None, 0))
 }
 
-/// How many bytes the ports of a scene take without a failure.
-fn lengths(scene: Scene) -> &'static [usize] {
-    match scene {
-        Scene::Greetings => &[45, 45],
-        Scene::Bytes => &[2096, 0, 0],
-        _ => &[1576, 1093, 0],
+/// Whether all is taken without a failure, and each call of a scene that fails costs no more than its port.
+fn is_right(alloc: Global, scene: &Scene) -> Result<bool, Fail> {
+    let whole = run_with(alloc, scene, 0)?;
+    if !is_whole(scene, &whole) {
+        return Ok(false);
     }
-}
-
-#[test]
-fn without_a_failure_all_is_taken(rt: HostRuntime) -> Result<(), Fail> {
-    for scene in SCENES {
-        let whole = run_with(rt.alloc(), scene, 0)?;
-        let taken = whole.endings.iter().map(|one| one.taken.len());
-        assert!(rt; taken.eq(lengths(scene).iter().copied()), "{scene:?}");
-        assert!(rt; whole.endings.iter().all(|one| !one.is_shut), "{scene:?}");
-        assert_eq!(rt; whole.faults, 0);
-    }
-    Ok(())
+    let (more, tried) = first_that_costs_more(alloc, scene, &whole)?;
+    Ok(more.is_none() && tried > scene.least)
 }
 
 #[test]
 fn a_call_that_fails_costs_its_port_alone(rt: HostRuntime) -> Result<(), Fail> {
-    for scene in [Scene::Pair, Scene::Slow, Scene::Waiting, Scene::Greetings] {
-        let (more, tried) = first_that_costs_more(rt.alloc(), scene)?;
-        assert_eq!(rt; more, None, "{scene:?}");
-        assert!(rt; tried > 12, "{scene:?}: {tried}");
+    for (row, scene) in SCENES.iter().enumerate() {
+        assert!(rt; is_right(rt.alloc(), scene)?, "scene {row}");
     }
     Ok(())
 }
 
 #[test]
 fn so_it_is_where_each_write_takes_one_byte(rt: HostRuntime) -> Result<(), Fail> {
-    let (more, tried) = first_that_costs_more(rt.alloc(), Scene::Bytes)?;
-    assert_eq!(rt; more, None);
-    assert!(rt; tried > 2100, "{tried}");
-    Ok(())
-}
-
-/// A client that says HELLO and shuts its sending half.
-fn half_shut(alloc: Global) -> Result<Loop<MemoryPorts>, Fail> {
-    let mut reads = pieces(alloc, b"HELLO\r", 520)?;
-    reads.push(ReadAnswer::Closed)?;
-    let mut scripts = Vec::new(alloc);
-    scripts.push(PortScript::new(1, reads, Vec::new(alloc)))?;
-    looped_over(alloc, CENTRE, &[Row::Inside(1)], scripts)
-}
-
-/// How many clients are connected after a turn, and whether the first one's port was shut.
-fn closed(alloc: Global, all: &mut Loop<MemoryPorts>) -> Result<(usize, bool), Fail> {
-    let _turned = all.turn(64)?;
-    Ok((all.clients(), all.ports().record(alloc, 1)?.is_shut))
-}
-
-#[test]
-fn a_client_that_shuts_its_sending_half_is_closed(rt: HostRuntime) -> Result<(), Fail> {
-    let found = at_loop(half_shut(rt.alloc()), |all| closed(rt.alloc(), all))?;
-    assert_eq!(rt; found, (0, true));
+    assert!(rt; is_right(rt.alloc(), &BYTES)?);
     Ok(())
 }

@@ -7,8 +7,6 @@ mod between_turns;
 #[cfg(test)]
 mod failures;
 #[cfg(test)]
-mod joining;
-#[cfg(test)]
 mod kept_numbers;
 #[cfg(test)]
 mod logged;

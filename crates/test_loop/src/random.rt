@@ -7,7 +7,6 @@ use memory_ports::{FailingPorts, MemoryPorts, PortScript, ReadAnswer, Script, Wr
 use oracle_server::sites::address;
 use ports::Happening;
 use std::alloc::Global;
-use std::mem;
 use std::test::Fail;
 
 mod maker;
@@ -166,36 +165,6 @@ fn agree(alloc: Global, scene: &Scene, slip: Slip) -> Result<bool, Fail> {
     agrees_with(alloc, scene, slip, &mut all)
 }
 
-/// The lines of a scene in which the loops differ, without those that don't matter to that.
-fn shorten(alloc: Global, scene: &mut Scene) -> Result<(), Fail> {
-    let mut place: usize = 0;
-    for _ in 0..scene.lines.len() {
-        let shorter = scripts::without(alloc, scene.lines.as_slice(), place)?;
-        let longer = mem::replace(&mut scene.lines, shorter);
-        if agree(alloc, scene, Slip::Nothing)? {
-            scene.lines = longer;
-            place = place.saturating_add(1);
-        }
-    }
-    Ok(())
-}
-
-/// Prints a scene as short as it can be had.
-fn show(rt: &HostRuntime, number: u64) -> Result<(), Fail> {
-    let mut scene = maker::scene(rt.alloc(), SEED, number)?;
-    for _ in 0..3 {
-        shorten(rt.alloc(), &mut scene)?;
-    }
-    let (most, turns, limit, due) = (scene.most, scene.turns, scene.limit, scene.due);
-    eprintln!(rt;
-        "seed {SEED}, scene {number}: {most} clients, {turns} turns of {limit}, call {due} fails"
-    )?;
-    for line in scene.lines.as_slice() {
-        scripts::show(rt, line)?;
-    }
-    Ok(())
-}
-
 /// The first of so many scenes in which the loops differ.
 fn first_difference(alloc: Global, scenes: u64, slip: Slip) -> Result<Option<u64>, Fail> {
     for number in 0..scenes {
@@ -209,19 +178,15 @@ fn first_difference(alloc: Global, scenes: u64, slip: Slip) -> Result<Option<u64
 
 #[test]
 fn the_loop_does_what_a_plain_loop_does(rt: HostRuntime) -> Result<(), Fail> {
-    let first = first_difference(rt.alloc(), SCRIPTS, Slip::Nothing)?;
-    if let Some(number) = first {
-        show(&rt, number)?;
-    }
-    assert_eq!(rt; first, None);
+    assert_eq!(rt; first_difference(rt.alloc(), SCRIPTS, Slip::Nothing)?, None);
     Ok(())
 }
 
 #[test]
 fn each_slip_is_noticed(rt: HostRuntime) -> Result<(), Fail> {
-    for slip in SLIPS {
-        let first = first_difference(rt.alloc(), NOTICING, slip)?;
-        assert!(rt; first.is_some(), "{slip:?}");
+    for (place, slip) in SLIPS.iter().enumerate() {
+        let first = first_difference(rt.alloc(), NOTICING, *slip)?;
+        assert!(rt; first.is_some(), "slip {place}");
     }
     Ok(())
 }

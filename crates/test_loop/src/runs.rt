@@ -1,22 +1,12 @@
-//! Loops over ports in memory, and what their ports took.
+//! Loops over ports in memory: who joins, what the ports give, and what they take.
 use catalog::Config;
-use event_loop::{Loop, Turned};
+use event_loop::Loop;
 use memory_ports::{MemoryPorts, PortScript, ReadAnswer, Script, WriteAnswer};
 use ports::Happening;
 use std::alloc::Global;
 use std::net::Ipv4Addr;
 use std::test::Fail;
 use test_centre::{CENTRE, RecordOf, made};
-
-/// A station for nobody.
-const SHUT: &[u8] = br#"
-[[station]]
-network = "ZZ"
-code = "SHUT"
-description = "Shut"
-capacity = 40
-access = ""
-"#;
 
 /// What happens, as a row of a test has it.
 #[derive(Clone, Copy)]
@@ -51,109 +41,119 @@ pub fn happenings(alloc: Global, rows: &[Row]) -> Result<Vec<Happening>, Fail> {
     Ok(all)
 }
 
-/// A loop over the stations, with the one for nobody, at whose ports these rows happen.
-pub fn looped(
-    alloc: Global,
-    rows: &[Row],
-    scripts: Vec<PortScript>,
-) -> Result<Loop<MemoryPorts>, Fail> {
-    let mut text = CENTRE.to_vec(alloc)?;
-    text.extend_from_slice(SHUT)?;
-    looped_over(alloc, text.as_slice(), rows, scripts)
+/// A record by its network, its station, and the second of the minute in which it starts.
+pub type RecordRow = (&'static [u8], &'static [u8], u8);
+
+/// A record of a station.
+pub fn record(network: &[u8], station: &[u8], second: u8) -> Result<[u8; 512], Fail> {
+    Ok(made(&RecordOf {
+        second,
+        ..RecordOf::station(network, station)
+    })?)
 }
 
-/// A loop over a configuration, at whose ports these rows happen.
-pub fn looped_over(
-    alloc: Global,
-    text: &[u8],
-    rows: &[Row],
-    scripts: Vec<PortScript>,
-) -> Result<Loop<MemoryPorts>, Fail> {
-    let config = Config::read(alloc, text)?;
-    let ports = MemoryPorts::new(alloc, Script::new(happenings(alloc, rows)?, scripts));
-    Ok(Loop::new(alloc, config, ports)?)
-}
-
-/// What is seen at a loop that was made.
-pub fn at_loop<T, F>(made: Result<Loop<MemoryPorts>, Fail>, look: F) -> Result<T, Fail>
-where
-    F: FnOnce(&mut Loop<MemoryPorts>) -> Result<T, Fail>,
-    requires { F.IsAlwaysCallable look }
-{
-    let mut all = made?;
-    look(&mut all)
-}
-
-/// What so many turns did in all.
-pub fn turns(all: &mut Loop<MemoryPorts>, count: usize, limit: usize) -> Result<Turned, Fail> {
-    let mut sum = Turned {
-        happenings: 0,
-        quiet: true,
-        refused: 0,
-    };
-    for _ in 0..count {
-        let turned = all.turn(limit)?;
-        sum.happenings = sum.happenings.saturating_add(turned.happenings);
-        sum.quiet = sum.quiet && turned.quiet;
-        sum.refused = sum.refused.saturating_add(turned.refused);
+/// Records, one after the other.
+pub fn records(alloc: Global, rows: &[RecordRow]) -> Result<Vec<u8>, Fail> {
+    let mut bytes = Vec::new(alloc);
+    for row in rows {
+        let (network, station, second) = *row;
+        bytes.extend_from_slice(&record(network, station, second)?)?;
     }
-    Ok(sum)
+    Ok(bytes)
 }
 
-/// The bytes that a port took.
-pub fn taken(alloc: Global, all: &Loop<MemoryPorts>, port: u64) -> Result<Vec<u8>, Fail> {
-    Ok(all.ports().record(alloc, port)?.taken)
+/// A port: what it gives, and how much it takes.
+#[derive(Clone, Copy)]
+pub struct Wire {
+    pub number: u64,
+    /// Records that it gives, and a text after them.
+    pub records: &'static [RecordRow],
+    pub text: &'static [u8],
+    /// How many bytes it gives at once, at least 1, and whether it gives nothing for a while after each piece.
+    pub piece: usize,
+    pub rests: bool,
+    /// Whether it comes to its end then.
+    pub ends: bool,
+    /// How many writes are said, how many bytes the first one takes at most, and how many each later one.
+    pub writes: usize,
+    pub first: usize,
+    pub most: usize,
+    /// Whether it takes nothing for a while after each of them.
+    pub pauses: bool,
 }
 
-/// Whether a port was shut, and gave and took nothing.
-pub fn is_turned_away(alloc: Global, all: &Loop<MemoryPorts>, port: u64) -> Result<bool, Fail> {
-    let record = all.ports().record(alloc, port)?;
-    Ok(record.is_shut && record.given.is_empty() && record.taken.is_empty())
-}
+/// A port that gives nothing, and takes all.
+pub const PLAIN: Wire = Wire {
+    number: 0,
+    records: &[],
+    text: b"",
+    piece: 520,
+    rests: false,
+    ends: false,
+    writes: 0,
+    first: 0,
+    most: 0,
+    pauses: false,
+};
 
-/// A text that is read in pieces of so many bytes, at least 1.
-pub fn pieces(alloc: Global, text: &[u8], size: usize) -> Result<Vec<ReadAnswer>, Fail> {
+/// What a port gives, piece by piece.
+fn reads(alloc: Global, wire: &Wire, bytes: &[u8]) -> Result<Vec<ReadAnswer>, Fail> {
     let mut answers = Vec::new(alloc);
-    for piece in text.chunks(size.max(1)) {
+    for piece in bytes.chunks(wire.piece.max(1)) {
         answers.push(ReadAnswer::Piece(piece.to_vec(alloc)?))?;
+        if wire.rests {
+            answers.push(ReadAnswer::Later)?;
+        }
+    }
+    if wire.ends {
+        answers.push(ReadAnswer::Closed)?;
     }
     Ok(answers)
 }
 
-/// A port that gives a text in pieces of so many bytes, and whose first writes take at most so many each.
-pub fn port(
-    alloc: Global,
-    number: u64,
-    text: &[u8],
-    size: usize,
-    most: usize,
-    writes: usize,
-) -> Result<PortScript, Fail> {
+/// How much it takes, write by write.
+fn writes(alloc: Global, wire: &Wire) -> Result<Vec<WriteAnswer>, Fail> {
     let mut answers = Vec::new(alloc);
-    for _ in 0..writes {
+    for number in 0..wire.writes {
+        let most = if number == 0 { wire.first } else { wire.most };
         answers.push(WriteAnswer::Upto(most))?;
+        if wire.pauses {
+            answers.push(WriteAnswer::Later)?;
+        }
     }
-    Ok(PortScript::new(number, pieces(alloc, text, size)?, answers))
+    Ok(answers)
 }
 
-/// A feed that gives bytes in pieces of so many.
-pub fn feed(alloc: Global, number: u64, bytes: &[u8], size: usize) -> Result<PortScript, Fail> {
-    let reads = pieces(alloc, bytes, size)?;
-    Ok(PortScript::new(number, reads, Vec::new(alloc)))
+/// The script of a port that gives these bytes.
+pub fn script_of(alloc: Global, wire: &Wire, bytes: &[u8]) -> Result<PortScript, Fail> {
+    let reads = reads(alloc, wire, bytes)?;
+    Ok(PortScript::new(wire.number, reads, writes(alloc, wire)?))
 }
 
-/// A list of two.
-pub fn both(alloc: Global, one: PortScript, other: PortScript) -> Result<Vec<PortScript>, Fail> {
+/// The script of a port.
+fn script(alloc: Global, wire: &Wire) -> Result<PortScript, Fail> {
+    let mut bytes = records(alloc, wire.records)?;
+    bytes.extend_from_slice(wire.text)?;
+    script_of(alloc, wire, bytes.as_slice())
+}
+
+/// The scripts of some ports.
+pub fn scripts(alloc: Global, wires: &[Wire]) -> Result<Vec<PortScript>, Fail> {
     let mut all = Vec::new(alloc);
-    all.push(one)?;
-    all.push(other)?;
+    for wire in wires {
+        all.push(script(alloc, wire)?)?;
+    }
     Ok(all)
 }
 
-/// The record of a station that starts so many seconds after the minute.
-pub fn record(network: &[u8], station: &[u8], second: u8) -> Result<[u8; 512], Fail> {
-    Ok(made(&RecordOf {
-        second: second % 60,
-        ..RecordOf::station(network, station)
-    })?)
+/// Ports at which these rows happen.
+pub fn ports(alloc: Global, rows: &[Row], wires: &[Wire]) -> Result<MemoryPorts, Fail> {
+    let script = Script::new(happenings(alloc, rows)?, scripts(alloc, wires)?);
+    Ok(MemoryPorts::new(alloc, script))
+}
+
+/// A loop over the three stations, at whose ports these rows happen.
+pub fn looped(alloc: Global, rows: &[Row], wires: &[Wire]) -> Result<Loop<MemoryPorts>, Fail> {
+    let ports = ports(alloc, rows, wires)?;
+    Ok(Loop::new(alloc, Config::read(alloc, CENTRE)?, ports)?)
 }

@@ -14,7 +14,7 @@ pub const PORTS: u64 = 40;
 const FEEDS: usize = 16;
 
 /// What the plain loop does wrong.
-#[derive(Clone, Copy, Debug, Drop, PartialEq, Eq)]
+#[derive(Clone, Copy, Drop, PartialEq, Eq)]
 pub enum Slip {
     Nothing,
     /// A port that had nothing to read goes on being read.
@@ -71,7 +71,7 @@ pub static SLIPS: [Slip; 17] = [
 ];
 
 /// What is seen of a turn.
-#[derive(Clone, Copy, Debug, Drop, PartialEq, Eq)]
+#[derive(Clone, Copy, Drop, PartialEq, Eq)]
 pub struct Seen {
     /// The ports could not say what happened.
     pub has_failed: bool,
@@ -83,19 +83,14 @@ pub struct Seen {
     pub feeds: usize,
 }
 
-/// Whose a port is.
-#[derive(Drop)]
-enum Whose {
-    Client(usize),
-    /// A feed's, with the beginning of a record.
-    Feed(Vec<u8>),
-}
-
 /// A port that is open.
 #[derive(Drop)]
 struct PlainSeat {
     port: u64,
-    whose: Whose,
+    /// The number of its client; none of a feed.
+    client: Option<usize>,
+    /// The beginning of a record, of a feed.
+    rest: Vec<u8>,
     readable: bool,
     writable: bool,
 }
@@ -134,11 +129,13 @@ impl PlainLoop {
     }
 
     fn clients(&self) -> usize {
-        let seats = self.seats.as_slice();
-        seats
-            .iter()
-            .filter(|seat| matches!(&seat.whose, Whose::Client(_)))
-            .count()
+        let mut count: usize = 0;
+        for seat in self.seats.as_slice() {
+            if seat.client.is_some() {
+                count = count.saturating_add(1);
+            }
+        }
+        count
     }
 
     fn feeds(&self) -> usize {
@@ -147,14 +144,19 @@ impl PlainLoop {
 
     /// The place of an open port.
     fn place(&self, port: u64) -> Option<usize> {
-        let seats = self.seats.as_slice();
-        seats.iter().position(|seat| seat.port == port)
+        for (place, seat) in self.seats.iter().enumerate() {
+            if seat.port == port {
+                return Some(place);
+            }
+        }
+        None
     }
 
-    fn sit(&mut self, port: u64, whose: Whose) -> Result<(), AllocError> {
+    fn sit(&mut self, port: u64, client: Option<usize>) -> Result<(), AllocError> {
         self.seats.push(PlainSeat {
             port,
-            whose,
+            client,
+            rest: Vec::new(self.alloc),
             readable: true,
             writable: true,
         })?;
@@ -166,28 +168,23 @@ impl PlainLoop {
             return self.ports.shut(port);
         }
         let client = self.plain.connect(address)?;
-        self.sit(port, Whose::Client(client))
+        self.sit(port, Some(client))
     }
 
     fn join_feed(&mut self, port: u64) -> Result<(), AllocError> {
         if self.feeds() >= self.more(FEEDS, Slip::OneFeedMore) {
             return self.ports.shut(port);
         }
-        self.sit(port, Whose::Feed(Vec::new(self.alloc)))
+        self.sit(port, None)
     }
 
-    fn mark_readable(&mut self, port: u64) {
+    /// An open port may be written to, or read.
+    fn mark(&mut self, port: u64, is_writable: bool) {
         for seat in self.seats.as_mut_slice() {
-            if seat.port == port {
-                seat.readable = true;
-            }
-        }
-    }
-
-    fn mark_writable(&mut self, port: u64) {
-        for seat in self.seats.as_mut_slice() {
-            if seat.port == port {
+            if seat.port == port && is_writable {
                 seat.writable = true;
+            } else if seat.port == port {
+                seat.readable = true;
             }
         }
     }
@@ -196,13 +193,10 @@ impl PlainLoop {
         match happens {
             Happens::Joins(port, address) => self.join(port, address)?,
             Happens::FeedJoins(port) => self.join_feed(port)?,
-            Happens::MayBeRead(port) => self.mark_readable(port),
+            Happens::MayBeRead(port) => self.mark(port, false),
             Happens::MayBeWritten(port) => {
-                if self.slip == Slip::MarksTheOther {
-                    self.mark_readable(port);
-                } else {
-                    self.mark_writable(port);
-                }
+                let is_writable = self.slip != Slip::MarksTheOther;
+                self.mark(port, is_writable);
             }
             Happens::Quiet => {}
         }
@@ -313,104 +307,81 @@ impl PlainLoop {
         arrivals: &[Arrival],
         seen: &mut Seen,
     ) -> Result<(), AllocError> {
-        let known = arrivals
-            .iter()
-            .find(|arrival| arrival.bytes.as_slice() == whole);
-        let is_taken = match known {
-            Some(arrival) => self.plain.arrive(arrival)?,
-            None => false,
-        };
+        let mut is_taken = false;
+        for arrival in arrivals {
+            if arrival.bytes.as_slice() == whole {
+                is_taken = self.plain.arrive(arrival)?;
+                break;
+            }
+        }
         if !is_taken && self.slip != Slip::CountsNoRefusal {
             seen.refused = seen.refused.saturating_add(1);
         }
         Ok(())
     }
 
-    /// More bytes of a feed came, at most as many as a record has. What is left of them.
+    /// More bytes of a feed came, at most as many as a record has.
     fn fed(
         &mut self,
-        bytes: Vec<u8>,
+        seat: &mut PlainSeat,
         arrivals: &[Arrival],
         seen: &mut Seen,
-    ) -> Result<Vec<u8>, AllocError> {
-        let all = bytes.as_slice();
-        match all.get(..512) {
-            Some(whole) => {
-                self.came(whole, arrivals, seen)?;
-                all.get(512..).unwrap_or(b"").to_vec(self.alloc)
-            }
-            None => Ok(bytes),
-        }
+    ) -> Result<(), AllocError> {
+        let Some((whole, left)) = seat.rest.as_slice().split_at_checked(512) else {
+            return Ok(());
+        };
+        self.came(whole, arrivals, seen)?;
+        seat.rest = left.to_vec(self.alloc)?;
+        Ok(())
     }
 
-    /// The pass over a feed's port; none if it is shut, else what is left of its bytes.
+    /// A feed's port is over. Whether it stays open.
+    fn feed_ends(&mut self, port: u64) -> Result<bool, AllocError> {
+        if self.slip == Slip::StaysOpen {
+            return Ok(true);
+        }
+        self.ports.shut(port)?;
+        Ok(false)
+    }
+
+    /// The reads of a pass over a feed's port. Whether it stays open.
     fn read_feed(
         &mut self,
         seat: &mut PlainSeat,
-        mut rest: Vec<u8>,
         arrivals: &[Arrival],
         seen: &mut Seen,
-    ) -> Result<Option<Vec<u8>>, AllocError> {
+    ) -> Result<bool, AllocError> {
         for _ in 0..self.more(self.limit, Slip::ReadsOnceMore) {
             if !seat.readable {
-                return Ok(Some(rest));
+                return Ok(true);
             }
             match self.ports.read(seat.port, 512)? {
                 Finds::Bytes(bytes) => {
-                    rest.extend_from_slice(bytes.as_slice())?;
-                    rest = self.fed(rest, arrivals, seen)?;
+                    seat.rest.extend_from_slice(bytes.as_slice())?;
+                    self.fed(seat, arrivals, seen)?;
                 }
                 Finds::Later => seat.readable = self.slip == Slip::StaysReadable,
-                Finds::TheEnd | Finds::Failure if self.slip == Slip::StaysOpen => return Ok(Some(
-                    rest,
-                )),
-                Finds::TheEnd | Finds::Failure => {
-                    self.ports.shut(seat.port)?;
-                    return Ok(None);
-                }
+                Finds::TheEnd | Finds::Failure => return self.feed_ends(seat.port),
             }
         }
-        Ok(Some(rest))
+        Ok(true)
     }
 
-    /// The pass over a port. What becomes of its seat.
+    /// The pass over a port. Whether it stays open.
     fn pass(
         &mut self,
-        seat: PlainSeat,
+        seat: &mut PlainSeat,
         arrivals: &[Arrival],
         seen: &mut Seen,
-    ) -> Result<Option<PlainSeat>, AllocError> {
-        let PlainSeat {
-            port,
-            whose,
-            readable,
-            writable,
-        } = seat;
-        let mut left = PlainSeat {
-            port,
-            whose: Whose::Client(0),
-            readable,
-            writable,
-        };
-        match whose {
-            Whose::Client(client) => {
-                left.whose = Whose::Client(client);
-                let stays = self.read_client(&mut left, client)?
-                    && self.write_client(&mut left, client)?;
-                Ok(if stays { Some(left) } else { None })
-            }
-            Whose::Feed(rest) => match self.read_feed(&mut left, rest, arrivals, seen)? {
-                Some(_) if self.slip == Slip::LosesTheRest => {
-                    left.whose = Whose::Feed(Vec::new(self.alloc));
-                    Ok(Some(left))
-                }
-                Some(rest) => {
-                    left.whose = Whose::Feed(rest);
-                    Ok(Some(left))
-                }
-                None => Ok(None),
-            },
+    ) -> Result<bool, AllocError> {
+        if let Some(client) = seat.client {
+            return Ok(self.read_client(seat, client)? && self.write_client(seat, client)?);
         }
+        let stays = self.read_feed(seat, arrivals, seen)?;
+        if self.slip == Slip::LosesTheRest {
+            seat.rest.clear();
+        }
+        Ok(stays)
     }
 
     /// The passes over all ports that are open, by rising number.
@@ -423,8 +394,8 @@ impl PlainLoop {
             };
             let place = self.place(port).unwrap_or(self.seats.len());
             if place < self.seats.len() {
-                let seat = self.seats.remove(place);
-                if let Some(seat) = self.pass(seat, arrivals, seen)? {
+                let mut seat = self.seats.remove(place);
+                if self.pass(&mut seat, arrivals, seen)? {
                     self.seats.push(seat)?;
                 }
             }

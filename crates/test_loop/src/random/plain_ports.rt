@@ -39,7 +39,7 @@ fn happenings(alloc: Global, lines: &[Line]) -> Result<VecDeque<Happens>, AllocE
             continue;
         };
         match joining(*happens) {
-            Some(port) if joined.as_slice().iter().any(|other| *other == port) => {}
+            Some(port) if joined.as_slice().contains(&port) => {}
             Some(port) => {
                 joined.push(port)?;
                 all.push_back(*happens)?;
@@ -73,13 +73,10 @@ impl PlainPorts {
 
     /// The place of a port, which is made where there is none.
     fn place(&mut self, number: u64) -> Result<usize, AllocError> {
-        let found = self
-            .ports
-            .as_slice()
-            .iter()
-            .position(|port| port.number == number);
-        if let Some(place) = found {
-            return Ok(place);
+        for (place, port) in self.ports.iter().enumerate() {
+            if port.number == number {
+                return Ok(place);
+            }
         }
         self.ports.push(PlainPort {
             number,

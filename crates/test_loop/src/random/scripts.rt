@@ -2,10 +2,9 @@
 use oracle_server::records::Arrival;
 use oracle_server::sites::Centre;
 use std::alloc::{AllocError, Global};
-use std::io;
 
 /// What happens at some port.
-#[derive(Clone, Copy, Debug, Drop)]
+#[derive(Clone, Copy, Drop)]
 pub enum Happens {
     /// A client joins from one of the three addresses.
     Joins(u64, usize),
@@ -25,7 +24,7 @@ pub enum Finds {
 }
 
 /// What comes of a write.
-#[derive(Clone, Copy, Debug, Drop)]
+#[derive(Clone, Copy, Drop)]
 pub enum Takes {
     /// At most so many bytes are taken.
     Upto(usize),
@@ -65,50 +64,5 @@ impl Finds {
             Finds::TheEnd => Finds::TheEnd,
             Finds::Failure => Finds::Failure,
         })
-    }
-}
-
-impl Line {
-    fn copy(&self, alloc: Global) -> Result<Line, AllocError> {
-        Ok(match self {
-            Line::Happens(happens) => Line::Happens(*happens),
-            Line::Reads(port, finds) => Line::Reads(*port, finds.copy(alloc)?),
-            Line::Writes(port, takes) => Line::Writes(*port, *takes),
-        })
-    }
-}
-
-/// All lines but the one at a place.
-pub fn without(alloc: Global, lines: &[Line], place: usize) -> Result<Vec<Line>, AllocError> {
-    let mut left = Vec::new(alloc);
-    for (at, line) in lines.iter().enumerate() {
-        if at != place {
-            left.push(line.copy(alloc)?)?;
-        }
-    }
-    Ok(left)
-}
-
-fn show_finds(rt: &HostRuntime, port: u64, finds: &Finds) -> io::Result<()> {
-    match finds {
-        Finds::Bytes(bytes) => {
-            eprint!(rt; "{port} gives ")?;
-            for byte in bytes.as_slice() {
-                eprint!(rt; "{byte:02x}")?;
-            }
-            eprintln!(rt; "")
-        }
-        Finds::Later => eprintln!(rt; "{port} gives later"),
-        Finds::TheEnd => eprintln!(rt; "{port} ends"),
-        Finds::Failure => eprintln!(rt; "{port} fails at a read"),
-    }
-}
-
-/// Prints a line.
-pub fn show(rt: &HostRuntime, line: &Line) -> io::Result<()> {
-    match line {
-        Line::Happens(happens) => eprintln!(rt; "happens {happens:?}"),
-        Line::Reads(port, finds) => show_finds(rt, *port, finds),
-        Line::Writes(port, takes) => eprintln!(rt; "{port} takes {takes:?}"),
     }
 }
