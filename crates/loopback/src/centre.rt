@@ -44,6 +44,45 @@ pub fn any_port() -> SocketAddrV4 {
     SocketAddrV4::new(Ipv4Addr::LOCALHOST, 0)
 }
 
+/// Ports that are listened on, of which only the connections that are admitted are taken.
+fn limited_ports<R: Net + AllocGlobal>(rt: &R, admission: Admission) -> Result<MioPorts, Fail> {
+    Ok(MioPorts::listen_to(rt, rt.alloc(), any_port(), any_port(), admission)?)
+}
+
+/// Two ports that the system chose, which are free again.
+pub fn free_ports<R: Net + AllocGlobal>(rt: &R) -> Result<(u16, u16), Fail> {
+    let ports = MioPorts::listen(rt, rt.alloc(), any_port(), any_port())?;
+    Ok(ports.bound())
+}
+
+/// What is seen at ports that are lent.
+fn look_at_ports<T, R, F>(rt: &R, mut ports: MioPorts, look: F) -> Result<T, Fail>
+where
+    F: FnOnce(&R, &mut MioPorts) -> Result<T, Fail>,
+    requires { F.IsAlwaysCallable look }
+{
+    look(rt, &mut ports)
+}
+
+/// What is seen at ports that take the connections that are admitted alone.
+pub fn at_ports<T, R, F>(rt: &R, admission: Admission, look: F) -> Result<T, Fail>
+where
+    R: Net + AllocGlobal,
+    F: FnOnce(&R, &mut MioPorts) -> Result<T, Fail>,
+    requires { F.IsAlwaysCallable look }
+{
+    look_at_ports(rt, limited_ports(rt, admission)?, look)
+}
+
+/// What is seen at a server that is lent.
+fn look_at<T, R, F>(rt: &R, mut centre: Centre, look: F) -> Result<T, Fail>
+where
+    F: FnOnce(&R, &mut Centre) -> Result<T, Fail>,
+    requires { F.IsAlwaysCallable look }
+{
+    look(rt, &mut centre)
+}
+
 /// What is seen at a new server of the three stations.
 pub fn at_centre<T, R, F>(rt: &R, look: F) -> Result<T, Fail>
 where
@@ -51,8 +90,7 @@ where
     F: FnOnce(&R, &mut Centre) -> Result<T, Fail>,
     requires { F.IsAlwaysCallable look }
 {
-    let mut centre = Centre::open(rt, LOOPBACK_CENTRE)?;
-    look(rt, &mut centre)
+    look_at(rt, Centre::open(rt, LOOPBACK_CENTRE)?, look)
 }
 
 /// The same at one that takes the connections that are admitted alone.
@@ -62,13 +100,55 @@ where
     F: FnOnce(&R, &mut Centre) -> Result<T, Fail>,
     requires { F.IsAlwaysCallable look }
 {
-    let ports = MioPorts::listen_to(rt, rt.alloc(), any_port(), any_port(), admission)?;
-    let mut centre = Centre::over(rt, LOOPBACK_CENTRE, ports)?;
-    look(rt, &mut centre)
+    let ports = limited_ports(rt, admission)?;
+    look_at(rt, Centre::over(rt, LOOPBACK_CENTRE, ports)?, look)
+}
+
+/// Servers with those configurations join others.
+fn open_each<R: Net + AllocGlobal>(
+    rt: &R,
+    configs: &[&[u8]],
+    centres: &mut Vec<Centre>,
+) -> Result<(), Fail> {
+    for config in configs {
+        centres.push(Centre::open(rt, config)?)?;
+    }
+    Ok(())
+}
+
+/// What is seen once servers with those configurations have joined others.
+fn look_at_each<T, R, F>(
+    rt: &R,
+    configs: &[&[u8]],
+    centres: &mut Vec<Centre>,
+    look: F,
+) -> Result<T, Fail>
+where
+    R: Net + AllocGlobal,
+    F: FnOnce(&R, &mut Vec<Centre>) -> Result<T, Fail>,
+    requires { F.IsAlwaysCallable look }
+{
+    open_each(rt, configs, centres)?;
+    look(rt, centres)
+}
+
+/// What is seen at new servers with those configurations.
+pub fn at_centres<T, R, F>(rt: &R, configs: &[&[u8]], look: F) -> Result<T, Fail>
+where
+    R: Net + AllocGlobal,
+    F: FnOnce(&R, &mut Vec<Centre>) -> Result<T, Fail>,
+    requires { F.IsAlwaysCallable look }
+{
+    look_at_each(rt, configs, &mut Vec::new(rt.alloc()), look)
+}
+
+/// The last of some servers ends.
+pub fn end_last(centres: &mut Vec<Centre>) {
+    let _gone = centres.pop();
 }
 
 /// A connection to a port of this machine, whose calls never wait.
-pub fn connect<R: Net>(rt: &R, port: u16) -> io::Result<R::Stream> {
+fn connect<R: Net>(rt: &R, port: u16) -> io::Result<R::Stream> {
     let stream = TcpStream::connect(rt, SocketAddr::from((Ipv4Addr::LOCALHOST, port)))?;
     stream.set_nodelay(true)?;
     stream.set_nonblocking(true)?;
@@ -101,7 +181,7 @@ fn read_piece<S: Read>(client: &mut S, buffer: &mut [u8]) -> io::Result<Piece> {
 /// A server over sockets.
 #[derive(Drop)]
 pub struct Centre {
-    server: Loop<MioPorts>,
+    server: Box<Loop<MioPorts>>,
     clients: u16,
     feeds: u16,
 }
@@ -117,7 +197,7 @@ impl Centre {
     fn over<R: AllocGlobal>(rt: &R, config: &[u8], ports: MioPorts) -> Result<Centre, Fail> {
         let (clients, feeds) = ports.bound();
         let config = Config::read(rt.alloc(), config)?;
-        let server = Loop::new(rt.alloc(), config, ports)?;
+        let server = Box::new(rt.alloc(), Loop::new(rt.alloc(), config, ports)?)?;
         Ok(Centre {
             server,
             clients,
@@ -141,11 +221,6 @@ impl Centre {
         Ok(self.server.reload(config).is_ok())
     }
 
-    /// A client that connects.
-    pub fn client<R: Net>(&self, rt: &R) -> io::Result<R::Stream> {
-        connect(rt, self.clients)
-    }
-
     /// A feed that connects.
     pub fn feed<R: Net>(&self, rt: &R) -> io::Result<R::Stream> {
         connect(rt, self.feeds)
@@ -156,11 +231,6 @@ impl Centre {
         for _ in 0..count {
             let _ = self.server.turn(64);
         }
-    }
-
-    /// The server's ports, once it is over.
-    pub fn into_ports(self) -> MioPorts {
-        self.server.into_ports()
     }
 
     /// Reads once as a client whose connection waits: the server has turns until something comes.
@@ -233,19 +303,5 @@ impl Centre {
     ) -> io::Result<bool> {
         client.write_all(said)?;
         self.gives(client, answer)
-    }
-
-    /// What a client says, one after the other, with the answers. The number of the first that is answered otherwise.
-    pub fn first_other_answer<S: Read + Write>(
-        &mut self,
-        client: &mut S,
-        lines: &[(&[u8], &[u8])],
-    ) -> io::Result<Option<usize>> {
-        for (at, &(said, answer)) in lines.iter().enumerate() {
-            if !self.answers(client, said, answer)? {
-                return Ok(Some(at));
-            }
-        }
-        Ok(None)
     }
 }

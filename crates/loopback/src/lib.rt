@@ -15,7 +15,10 @@ mod records;
 mod stage;
 mod visitor;
 
-pub use centre::{Centre, LOOPBACK_CENTRE, any_port, at_centre, at_limited_centre, connect};
+pub use centre::{
+    Centre, LOOPBACK_CENTRE, any_port, at_centre, at_centres, at_limited_centre, at_ports,
+    end_last, free_ports,
+};
 pub use polls::close_polls;
 pub use records::{packet, record};
 pub use stage::{Actor, Stage, StageListener, StageStream};

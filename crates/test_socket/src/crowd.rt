@@ -1,9 +1,11 @@
 //! Many clients at once.
+use crate::play::peer;
 use loopback::{Centre, at_centre, record};
+use mio::net::TcpStream;
 use sl_packet::{Seq, frame};
 use std::alloc::Global;
 use std::io;
-use std::io::{Read, Write};
+use std::io::Write;
 use std::net::Net;
 use std::test::Fail;
 
@@ -14,20 +16,19 @@ const BLOCK: u16 = 20;
 
 const BLOCKS: u16 = 100;
 
-/// So many clients.
-fn crowd<R: Net + AllocGlobal>(rt: &R, centre: &mut Centre) -> Result<Vec<R::Stream>, Fail> {
-    let mut clients = Vec::new(rt.alloc());
+/// So many clients come.
+fn crowd<R: Net>(rt: &R, centre: &mut Centre, clients: &mut Vec<TcpStream>) -> Result<(), Fail> {
     for _ in 0..CLIENTS {
-        clients.push(centre.client(rt)?)?;
+        clients.push(peer(rt, 1, centre.ports().0)?)?;
         centre.turns(1);
     }
-    Ok(clients)
+    Ok(())
 }
 
-/// Whether all clients are answered so.
-fn are_answered<S: Read + Write>(
+/// Whether all clients that say something are answered so.
+fn are_answered(
     centre: &mut Centre,
-    clients: &mut [S],
+    clients: &mut [TcpStream],
     said: &[u8],
     answer: &[u8],
 ) -> io::Result<bool> {
@@ -39,94 +40,79 @@ fn are_answered<S: Read + Write>(
     Ok(true)
 }
 
-/// Whether all clients read these bytes next.
-fn are_given<S: Read>(centre: &mut Centre, clients: &mut [S], wanted: &[u8]) -> io::Result<bool> {
-    for client in clients {
-        if !centre.gives(client, wanted)? {
-            return Ok(false);
-        }
-    }
-    Ok(true)
+/// The packet of a record of GE WLF with so many samples, in the order in which they come.
+fn packet_of(samples: u16) -> Result<[u8; 520], Fail> {
+    let number = Seq::of((0xFF_FFFE + u32::from(samples)) % 0x100_0000).ok_or("no number")?;
+    Ok(frame(number, &record(b"WLF", b"BHZ", samples)?))
 }
 
-/// Some records of GE WLF, told apart by their samples, and the packets that they come in.
-#[derive(Drop)]
-struct Records {
-    records: Vec<u8>,
-    packets: Vec<u8>,
-}
-
-/// The records with so many samples and more, from a number on.
-fn made_records(alloc: Global, samples: u16, first: Seq) -> Result<Records, Fail> {
-    let mut made = Records {
-        records: Vec::new(alloc),
-        packets: Vec::new(alloc),
-    };
-    let mut number = first;
+/// The packets of some records, with so many samples and more.
+fn packets_from(alloc: Global, samples: u16) -> Result<Vec<u8>, Fail> {
+    let mut packets = Vec::new(alloc);
     for more in 0..BLOCK {
-        let record = record(b"WLF", b"BHZ", samples.saturating_add(more))?;
-        made.records.extend_from_slice(&record)?;
-        made.packets.extend_from_slice(&frame(number, &record))?;
-        number = number.next();
+        packets.extend_from_slice(&packet_of(samples.saturating_add(more))?)?;
     }
-    Ok(made)
+    Ok(packets)
 }
 
-/// The number that is so many after the first one of GE WLF.
-fn number_after(count: u16) -> Option<Seq> {
-    Seq::of((0xFF_FFFE + u32::from(count)) % 0x100_0000)
+/// A feed sends the records of some packets.
+fn send_records<S: Write>(feed: &mut S, packets: &[u8]) -> io::Result<()> {
+    for packet in packets.chunks(520) {
+        feed.write_all(packet.get(8..).unwrap_or(&[]))?;
+    }
+    Ok(())
 }
 
-/// Some records come. Whether all clients are sent their packets.
-fn are_handed<S: Read, F: Write>(
-    alloc: Global,
+/// Whether all clients are sent the packets of some records that a feed sends.
+fn are_handed(
     centre: &mut Centre,
-    clients: &mut [S],
-    feed: &mut F,
-    samples: u16,
-) -> Result<bool, Fail> {
-    let first = number_after(samples).ok_or("no number")?;
-    let block = made_records(alloc, samples, first)?;
-    feed.write_all(&block.records)?;
+    clients: &mut [TcpStream],
+    feed: &mut TcpStream,
+    packets: &[u8],
+) -> io::Result<bool> {
+    send_records(feed, packets)?;
     centre.turns(1);
-    Ok(are_given(centre, clients, &block.packets)?)
+    are_answered(centre, clients, b"", packets)
 }
 
 /// All records come, some at a time. The first of those of which not all clients are sent their packets.
-fn first_not_handed<S: Read, F: Write>(
+fn first_not_handed(
     alloc: Global,
     centre: &mut Centre,
-    clients: &mut [S],
-    feed: &mut F,
+    clients: &mut [TcpStream],
+    feed: &mut TcpStream,
 ) -> Result<Option<u16>, Fail> {
     for place in 0..BLOCKS {
         let samples = place.saturating_mul(BLOCK);
-        if !are_handed(alloc, centre, clients, feed, samples)? {
+        let packets = packets_from(alloc, samples)?;
+        if !matches!(
+            are_handed(centre, clients, feed, packets.as_slice()),
+            Ok(true)
+        ) {
             return Ok(Some(samples));
         }
     }
     Ok(None)
 }
 
-/// Whether all clients are sent all packets.
+/// Whether all clients are sent all packets, and stay.
 fn are_all_handed<R: Net + AllocGlobal>(
     rt: &R,
     centre: &mut Centre,
-    clients: &mut [R::Stream],
+    clients: &mut [TcpStream],
 ) -> Result<bool, Fail> {
     let said = b"STATION WLF GE\rDATA\rEND\r";
-    if !are_answered(centre, clients, said, b"OK\r\nOK\r\n")? {
-        return Ok(false);
-    }
-    let mut feed = centre.feed(rt)?;
-    Ok(first_not_handed(rt.alloc(), centre, clients, &mut feed)? == None)
+    let are_answered = are_answered(centre, clients, said, b"OK\r\nOK\r\n")?;
+    let mut feed = peer(rt, 1, centre.ports().1)?;
+    let not_handed = first_not_handed(rt.alloc(), centre, clients, &mut feed)?;
+    Ok(are_answered && not_handed == None && centre.clients() == usize::from(CLIENTS))
 }
 
-/// Whether a crowd is sent all packets and stays.
+/// The same with clients that come for it.
 fn crowd_is_served<R: Net + AllocGlobal>(rt: &R, centre: &mut Centre) -> Result<bool, Fail> {
-    let mut clients = crowd(rt, centre)?;
-    let are_handed = are_all_handed(rt, centre, clients.as_mut_slice())?;
-    Ok(are_handed && centre.clients() == usize::from(CLIENTS))
+    let mut clients = Vec::new(rt.alloc());
+    crowd(rt, centre, &mut clients)?;
+    are_all_handed(rt, centre, clients.as_mut_slice())
 }
 
 #[test]

@@ -1,14 +1,14 @@
 //! What `feed` does over sockets.
-use crate::records::{gives_packet, send};
+use crate::play::Act::{Gives, Packet, Say};
+use crate::play::Step::{By, Client};
+use crate::play::{Step, first_other, join, send};
 use incidents::Failure;
 use job_base::Endpoint;
-use job_feed::{
-    FeedProgress, FeedRules, await_end, begin_feed, feed_records, send_feed, send_files,
-};
-use loopback::{Centre, any_port, at_centre, record};
-use ports_socket::MioPorts;
+use job_feed::{FeedProgress, FeedRules, begin_feed, feed_records, send_feed, send_files};
+use loopback::{Centre, at_centre, record};
+use mio::net::TcpStream;
 use record_check::AllStations;
-use sl_io::{Failing, MemorySource, Outer};
+use sl_io::{MemorySource, Outer};
 use std::alloc::Global;
 use std::fs::{self, File};
 use std::io::{Read, Write};
@@ -24,275 +24,206 @@ fn here(port: u16) -> Endpoint {
     }
 }
 
-/// Two records of GE APE, and a rest behind them.
-fn two_records(alloc: Global, rest: &[u8]) -> Result<Vec<u8>, Fail> {
-    let mut bytes = record(b"APE", b"BHZ", 1)?.to_vec(alloc)?;
-    bytes.extend_from_slice(&record(b"APE", b"BHZ", 2)?)?;
+/// So many records of GE APE, told apart by their samples, and a rest behind them.
+fn some_records(alloc: Global, count: u16, rest: &[u8]) -> Result<Vec<u8>, Fail> {
+    let mut bytes = Vec::new(alloc);
+    for samples in 1..=count {
+        bytes.extend_from_slice(&record(b"APE", b"BHZ", samples)?)?;
+    }
     bytes.extend_from_slice(rest)?;
     Ok(bytes)
 }
 
-/// Whether a client that fetches from GE APE is given two packets, those of `two_records`, and then the end.
-fn gives_both<S: Read + Write>(centre: &mut Centre, client: &mut S) -> Result<bool, Fail> {
-    client.write_all(b"FETCH\r")?;
-    Ok(
-        gives_packet(centre, client, b"SL000000", b"APE", b"BHZ", 1)?
-            && gives_packet(centre, client, b"SL000001", b"APE", b"BHZ", 2)?
-            && centre.gives(client, b"END")?,
-    )
+/// A client that fetches from GE APE is given the first two records.
+static TWO_ARE_HELD: [Step; 5] = [
+    Client(1),
+    By(0, Say(b"FETCH\r", b"")),
+    By(0, Packet(b"SL000000", (b"APE", b"BHZ", 1))),
+    By(0, Packet(b"SL000001", (b"APE", b"BHZ", 2))),
+    By(0, Gives(b"END")),
+];
+
+/// Whether GE APE holds two records.
+fn holds_two<R: Net + AllocGlobal>(rt: &R, centre: &mut Centre) -> Result<bool, Fail> {
+    Ok(first_other(rt, centre, &TWO_ARE_HELD)? == None)
 }
 
-/// Whether GE APE holds two records, those of `two_records`.
-fn holds_two<R: Net>(rt: &R, centre: &mut Centre) -> Result<bool, Fail> {
-    let mut client = centre.client(rt)?;
-    gives_both(centre, &mut client)
-}
-
-/// How a feed of these bytes ends once the server has had so many turns: how many records were sent.
-fn ended<R: Net>(rt: &R, centre: &mut Centre, bytes: &[u8], turns: u8) -> Result<u64, Failure> {
-    let begun = begin_feed(rt, here(centre.ports().1), &mut MemorySource::new(bytes));
-    centre.turns(turns);
-    begun.and_then(|feed| feed.wait())
-}
-
-/// The same of two records and a rest: None for fault 41.
-fn ended_with_rest<R: Net + AllocGlobal>(
-    rt: &R,
-    centre: &mut Centre,
-    rest: &[u8],
-) -> Result<Option<u64>, Fail> {
-    let bytes = two_records(rt.alloc(), rest)?;
-    match ended(rt, centre, bytes.as_slice(), 3) {
-        Ok(count) => Ok(Some(count)),
-        Err(failure) if failure.reason().number() == 41 => Ok(None),
-        Err(_) => Err(Fail::from("another fault")),
+/// The number of the fault of a feed that has ended, or 0, and how many records it says it has sent.
+fn outcome_of(ended: Result<u64, Failure>) -> (u8, u64) {
+    match ended {
+        Ok(count) => (0, count),
+        Err(failure) => (failure.reason().number(), 0),
     }
 }
 
-/// What a feed of two records and a rest answers once the server has had its turns, and whether the two have arrived.
+/// What comes of a feed of these bytes once the server has had so many turns.
+fn outcome_after<R: Net>(rt: &R, centre: &mut Centre, bytes: &[u8], turns: u8) -> (u8, u64) {
+    let begun = begin_feed(rt, here(centre.ports().1), &mut MemorySource::new(bytes));
+    centre.turns(turns);
+    outcome_of(begun.and_then(|feed| feed.wait()))
+}
+
+/// What comes of a feed of two records and a rest, and whether the two have arrived.
 fn fed<R: Net + AllocGlobal>(
     rt: &R,
     centre: &mut Centre,
     rest: &[u8],
-) -> Result<(Option<u64>, bool), Fail> {
-    let number = ended_with_rest(rt, centre, rest)?;
-    Ok((number, holds_two(rt, centre)?))
+) -> Result<((u8, u64), bool), Fail> {
+    let bytes = some_records(rt.alloc(), 2, rest)?;
+    let outcome = outcome_after(rt, centre, bytes.as_slice(), 3);
+    Ok((outcome, holds_two(rt, centre)?))
 }
 
+/// A feed that ends inside a record is fault 41, and its whole records arrive.
 #[test]
 fn records_of_a_feed_arrive(rt: HostRuntime) -> Result<(), Fail> {
-    let found = at_centre(&rt, |rt, centre| fed(rt, centre, b""))?;
-    assert_eq!(rt; found, (Some(2), true));
+    for (rest, outcome) in [(0usize, (0, 2)), (511, (41, 0))] {
+        let rest = [b'0'; 511].get(..rest).unwrap_or(&[]);
+        let found = at_centre(&rt, |rt, centre| fed(rt, centre, rest))?;
+        assert_eq!(rt; found, (outcome, true));
+    }
     Ok(())
 }
 
-#[test]
-fn a_feed_that_ends_inside_a_record_is_fault_41_and_its_whole_records_arrive(
-    rt: HostRuntime,
-) -> Result<(), Fail> {
-    let found = at_centre(&rt, |rt, centre| fed(rt, centre, &[b'0'; 511]))?;
-    assert_eq!(rt; found, (None, true));
-    Ok(())
+/// Files that the job `feed` sends, and with which options; the number of the fault, or 0, how many records were sent,
+/// whether the server refuses any, and whether it holds two then.
+struct Row {
+    files: &'static [&'static str],
+    is_strict: bool,
+    skips: bool,
+    outcome: (u8, u64, bool),
+    holds_two: bool,
 }
 
-/// Two files of a record each.
-fn make_files<R: Files>(rt: &R) -> Result<(), Fail> {
-    fs::write(rt, "first.mseed", &record(b"APE", b"BHZ", 1)?)?;
-    fs::write(rt, "second.mseed", &record(b"APE", b"BHZ", 2)?)?;
-    Ok(())
-}
-
-/// Sends both as the job `feed` does to a server, which has its turns then. Whether it has ended the feed in order, and
-/// a server takes both records.
-fn are_taken<R: Files<File = File> + Eprint + Clock + Net + AllocGlobal>(
-    rt: &R,
-    centre: &mut Centre,
-    server: &str,
-) -> bool {
-    let rules = FeedRules {
-        stations: &AllStations,
+static ROWS: [Row; 3] = [
+    Row {
+        files: &["first.mseed", "second.mseed"],
         is_strict: false,
         skips: false,
-    };
-    let mut progress = FeedProgress::new();
-    let files = ["first.mseed", "second.mseed"];
-    let Ok(Some(feed)) = send_files(rt, server, &files, 1, &rules, &mut progress) else {
-        return false;
-    };
-    centre.turns(3);
-    matches!(feed.wait(), Ok(2)) && progress.sent.count == 2 && progress.tally.refused() == 0
-}
-
-/// The same, and whether both records have arrived.
-fn fed_from_files<R: Files<File = File> + Eprint + Clock + Net + AllocGlobal>(
-    rt: &R,
-    centre: &mut Centre,
-) -> Result<bool, Fail> {
-    make_files(rt)?;
-    let server = format!(in rt.alloc(); "127.0.0.1:{}", centre.ports().1)?;
-    let are_taken = are_taken(rt, centre, server.as_str());
-    Ok(are_taken && holds_two(rt, centre)?)
-}
-
-/// A file of a record, 700 bytes that are in none, and another record.
-fn make_torn_file<R: Files + AllocGlobal>(rt: &R) -> Result<(), Fail> {
-    let mut bytes = record(b"APE", b"BHZ", 1)?.to_vec(rt.alloc())?;
-    bytes.extend_from_slice(&[b'0'; 700])?;
-    bytes.extend_from_slice(&record(b"APE", b"BHZ", 2)?)?;
-    fs::write(rt, "torn.mseed", bytes.as_slice())?;
-    Ok(())
-}
-
-/// Sends that file as `feed --skip` does to a server, which has its turns then. Whether the two records alone were
-/// sent.
-fn are_sent_alone<R: Files<File = File> + Eprint + Clock + Net + AllocGlobal>(
-    rt: &R,
-    centre: &mut Centre,
-    server: &str,
-) -> bool {
-    let rules = FeedRules {
-        stations: &AllStations,
+        outcome: (0, 2, false),
+        holds_two: true,
+    },
+    // Bytes in no record are passed over.
+    Row {
+        files: &["torn.mseed"],
         is_strict: false,
         skips: true,
-    };
-    let mut progress = FeedProgress::new();
-    let Ok(Some(feed)) = send_files(rt, server, &["torn.mseed"], 1, &rules, &mut progress) else {
-        return false;
-    };
-    centre.turns(3);
-    matches!(feed.wait(), Ok(2)) && progress.tally.refused() == 0
-}
-
-/// The same, and whether both records have arrived.
-fn fed_from_torn_file<R: Files<File = File> + Eprint + Clock + Net + AllocGlobal>(
-    rt: &R,
-    centre: &mut Centre,
-) -> Result<bool, Fail> {
-    make_torn_file(rt)?;
-    let server = format!(in rt.alloc(); "127.0.0.1:{}", centre.ports().1)?;
-    let are_sent = are_sent_alone(rt, centre, server.as_str());
-    Ok(are_sent && holds_two(rt, centre)?)
-}
-
-#[test]
-fn bytes_in_no_record_are_passed_over(rt: HostRuntime) -> Result<(), Fail> {
-    let has_arrived = at_centre(&rt, |rt, centre| fed_from_torn_file(rt, centre))?;
-    assert!(rt; has_arrived);
-    Ok(())
-}
-
-/// What ends a strict feed of a record and of 20 that can't be read, and how many records were sent.
-fn given_up<R: Files<File = File> + Eprint + Clock + Net + AllocGlobal>(
-    rt: &R,
-    centre: &mut Centre,
-) -> Result<(u8, u64), Fail> {
-    let mut bytes = record(b"APE", b"BHZ", 1)?.to_vec(rt.alloc())?;
-    bytes.extend_from_slice(&[b'0'; 10_240])?;
-    fs::write(rt, "lost.mseed", bytes.as_slice())?;
-    let server = format!(in rt.alloc(); "127.0.0.1:{}", centre.ports().1)?;
-    let rules = FeedRules {
-        stations: &AllStations,
+        outcome: (0, 2, false),
+        holds_two: true,
+    },
+    // A strict feed ends at sixteen records that can't be read.
+    Row {
+        files: &["lost.mseed"],
         is_strict: true,
         skips: false,
-    };
-    let mut progress = FeedProgress::new();
-    let fault = match send_files(
-        rt,
-        server.as_str(),
-        &["lost.mseed"],
-        1,
-        &rules,
-        &mut progress,
-    ) {
-        Ok(_) => 0,
-        Err(incident) => incident.failure.reason().number(),
-    };
-    Ok((fault, progress.sent.count))
+        outcome: (2, 17, true),
+        holds_two: false,
+    },
+];
+
+/// Two files of a record each; one of a record, 700 bytes that are in none, and another record; and one of a record and
+/// of 20 that can't be read.
+fn make_files<R: Files + AllocGlobal>(rt: &R) -> Result<(), Fail> {
+    let first = record(b"APE", b"BHZ", 1)?;
+    let second = record(b"APE", b"BHZ", 2)?;
+    fs::write(rt, "first.mseed", &first)?;
+    fs::write(rt, "second.mseed", &second)?;
+    let mut torn = some_records(rt.alloc(), 1, &[b'0'; 700])?;
+    torn.extend_from_slice(&second)?;
+    fs::write(rt, "torn.mseed", torn.as_slice())?;
+    let lost = some_records(rt.alloc(), 1, &[b'0'; 10_240])?;
+    fs::write(rt, "lost.mseed", lost.as_slice())?;
+    Ok(())
 }
 
-#[test]
-fn a_strict_feed_ends_at_sixteen_records_that_cannot_be_read(rt: HostRuntime) -> Result<(), Fail> {
-    let found = at_centre(&rt, |rt, centre| given_up(rt, centre))?;
-    assert_eq!(rt; found, (2, 17));
-    Ok(())
+/// Sends the files of a row as the job `feed` does to a server, which has its turns then. What comes of it.
+fn sent<R: Files<File = File> + Eprint + Clock + Net + AllocGlobal>(
+    rt: &R,
+    centre: &mut Centre,
+    server: &str,
+    row: &Row,
+) -> (u8, u64, bool) {
+    let rules = FeedRules {
+        stations: &AllStations,
+        is_strict: row.is_strict,
+        skips: row.skips,
+    };
+    let mut progress = FeedProgress::new();
+    let fault = match send_files(rt, server, row.files, 1, &rules, &mut progress) {
+        Ok(Some(feed)) => {
+            centre.turns(3);
+            outcome_of(feed.wait()).0
+        }
+        Ok(None) => u8::MAX,
+        Err(incident) => incident.failure.reason().number(),
+    };
+    (fault, progress.sent.count, progress.tally.refused() > 0)
+}
+
+/// The same, and whether two records have arrived.
+fn sent_and_held<R: Files<File = File> + Eprint + Clock + Net + AllocGlobal>(
+    rt: &R,
+    centre: &mut Centre,
+    row: &Row,
+) -> Result<((u8, u64, bool), bool), Fail> {
+    let server = format!(in rt.alloc(); "127.0.0.1:{}", centre.ports().1)?;
+    let outcome = sent(rt, centre, server.as_str(), row);
+    Ok((outcome, holds_two(rt, centre)?))
 }
 
 #[test]
 fn the_records_of_files_are_sent(rt: HostRuntime) -> Result<(), Fail> {
-    let has_arrived = at_centre(&rt, |rt, centre| fed_from_files(rt, centre))?;
-    assert!(rt; has_arrived);
-    Ok(())
-}
-
-/// The number of the fault of a feed that has ended, or 0.
-fn fault_of(ended: Result<u64, Failure>) -> u8 {
-    match ended {
-        Ok(_) => 0,
-        Err(failure) => failure.reason().number(),
+    make_files(&rt)?;
+    for row in &ROWS {
+        let found = at_centre(&rt, |rt, centre| sent_and_held(rt, centre, row))?;
+        assert_eq!(rt; found, (row.outcome, row.holds_two));
     }
+    Ok(())
 }
 
 /// How many feeds a server takes.
 const FEEDS: u8 = 16;
 
 /// As many feeds as a server takes.
-fn all_feeds<R: Net + AllocGlobal>(rt: &R, centre: &mut Centre) -> Result<Vec<R::Stream>, Fail> {
-    let mut feeds = Vec::new(rt.alloc());
+fn join_all<R: Net>(rt: &R, centre: &mut Centre, feeds: &mut Vec<TcpStream>) -> bool {
     for _ in 0..FEEDS {
-        feeds.push(centre.feed(rt)?)?;
+        if !join(rt, feeds, 1, centre.ports().1) {
+            return false;
+        }
         centre.turns(1);
     }
-    Ok(feeds)
+    true
 }
 
-/// What a feed of so many records is told that comes while the server has all its feeds.
-fn told_beside_all_feeds<R: Net + AllocGlobal>(
+/// What comes of a feed of so many records that comes while the server has all its feeds.
+fn outcome_beside<R: Net + AllocGlobal>(
     rt: &R,
     centre: &mut Centre,
-    count: u8,
-) -> Result<u8, Fail> {
-    let bytes = many_records(rt.alloc(), count)?;
-    let _feeds = all_feeds(rt, centre)?;
-    Ok(fault_of(ended(rt, centre, bytes.as_slice(), 2)))
+    feeds: &mut Vec<TcpStream>,
+    count: u16,
+) -> Result<(u8, u64), Fail> {
+    let have_joined = join_all(rt, centre, feeds);
+    let bytes = some_records(rt.alloc(), count, b"")?;
+    let outcome = outcome_after(rt, centre, bytes.as_slice(), 2);
+    Ok(if have_joined { outcome } else { (0, 0) })
 }
 
-/// So many records of GE APE.
-fn many_records(alloc: Global, count: u8) -> Result<Vec<u8>, Fail> {
-    let mut bytes = Vec::new(alloc);
-    for samples in 0..count {
-        bytes.extend_from_slice(&record(b"APE", b"BHZ", u16::from(samples))?)?;
-    }
-    Ok(bytes)
+/// The same with feeds that come for it.
+fn outcome_beside_all<R: Net + AllocGlobal>(
+    rt: &R,
+    centre: &mut Centre,
+    count: u16,
+) -> Result<(u8, u64), Fail> {
+    outcome_beside(rt, centre, &mut Vec::new(rt.alloc()), count)
 }
 
 #[test]
 fn a_feed_beside_16_others_is_fault_43(rt: HostRuntime) -> Result<(), Fail> {
     for count in [1, 2, 100] {
-        let fault = at_centre(&rt, |rt, centre| told_beside_all_feeds(rt, centre, count))?;
-        assert_eq!(rt; fault, 43, "of {count} records");
+        let outcome = at_centre(&rt, |rt, centre| outcome_beside_all(rt, centre, count))?;
+        assert_eq!(rt; outcome, (43, 0), "of {count} records");
     }
     Ok(())
-}
-
-/// What a feed of these bytes over a connection is told.
-fn told_over<S: OpenStream + Read + Write + Drop>(stream: S, bytes: &[u8]) -> u8 {
-    let begun = send_feed(stream, &mut MemorySource::new(bytes));
-    fault_of(begun.and_then(|feed| feed.wait()))
-}
-
-/// A connection that a server has turned away beside all its feeds.
-fn turned_away<R: Net + AllocGlobal>(rt: &R, centre: &mut Centre) -> Result<R::Stream, Fail> {
-    let _feeds = all_feeds(rt, centre)?;
-    let stream = connected(rt, centre)?;
-    centre.turns(2);
-    Ok(stream)
-}
-
-/// What a feed of two records is told whose server turned it away before it sent anything.
-fn told_once_turned_away<R: Net + AllocGlobal>(rt: &R, centre: &mut Centre) -> Result<u8, Fail> {
-    let bytes = two_records(rt.alloc(), b"")?;
-    let stream = turned_away(rt, centre)?;
-    Ok(told_over(stream, bytes.as_slice()))
 }
 
 /// A connection to the server's port for feeds, whose calls wait.
@@ -302,123 +233,118 @@ fn connected<R: Net>(rt: &R, centre: &Centre) -> Result<R::Stream, Fail> {
     Ok(stream)
 }
 
-#[test]
-fn a_feed_that_was_turned_away_before_it_sent_is_fault_43(rt: HostRuntime) -> Result<(), Fail> {
-    let fault = at_centre(&rt, told_once_turned_away)?;
-    assert_eq!(rt; fault, 43);
-    Ok(())
+/// A connection that a server has turned away beside all its feeds.
+fn turned_away<R: Net>(
+    rt: &R,
+    centre: &mut Centre,
+    feeds: &mut Vec<TcpStream>,
+) -> Result<R::Stream, Fail> {
+    if !join_all(rt, centre, feeds) {
+        return Err(Fail::from("not all feeds joined"));
+    }
+    let stream = connected(rt, centre)?;
+    centre.turns(2);
+    Ok(stream)
+}
+
+/// The same with feeds that come for it.
+fn turned_away_beside_all<R: Net + AllocGlobal>(
+    rt: &R,
+    centre: &mut Centre,
+) -> Result<R::Stream, Fail> {
+    turned_away(rt, centre, &mut Vec::new(rt.alloc()))
 }
 
 /// A connection that a server has taken and that sent a record, which the server has read or not.
 fn begun<R: Net>(rt: &R, centre: &mut Centre, has_read: bool) -> Result<R::Stream, Fail> {
     let mut stream = connected(rt, centre)?;
     centre.turns(1);
-    send(&mut stream, b"APE", b"BHZ", 1)?;
+    if !send(&mut stream, (b"APE", b"BHZ", 1)) {
+        return Err(Fail::from("the record was not sent"));
+    }
     if has_read {
         centre.turns(2);
     }
     Ok(stream)
 }
 
-/// The same once its server has gone.
-fn left_behind<R: Net + AllocGlobal>(rt: &R, has_read: bool) -> Result<R::Stream, Fail> {
-    at_centre(
-        rt,
-        |rt: &R, centre: &mut Centre| begun(rt, centre, has_read),
-    )
+/// What comes of a feed of these bytes over a connection.
+fn outcome_over<S: OpenStream + Read + Write + Drop>(stream: S, bytes: &[u8]) -> (u8, u64) {
+    let begun = send_feed(stream, &mut MemorySource::new(bytes));
+    outcome_of(begun.and_then(|feed| feed.wait()))
 }
 
-/// What a feed of two records more is told whose server goes once it has taken the connection, before or after it read
-/// the first.
-fn told_when_the_server_goes<R: Net + AllocGlobal>(rt: &R, has_read: bool) -> Result<u8, Fail> {
-    let bytes = two_records(rt.alloc(), b"")?;
-    let stream = left_behind(rt, has_read)?;
-    Ok(told_over(stream, bytes.as_slice()))
+/// What comes of a feed that was turned away before it sent anything.
+fn outcome_once_away<R: Net + AllocGlobal>(rt: &R, bytes: &[u8]) -> Result<(u8, u64), Fail> {
+    let stream = at_centre(
+        rt,
+        |rt: &R, centre: &mut Centre| turned_away_beside_all(rt, centre),
+    )?;
+    Ok(outcome_over(stream, bytes))
+}
+
+/// What comes of a feed whose server goes once it has taken the connection, before or after it read the first record.
+fn outcome_once_gone<R: Net + AllocGlobal>(
+    rt: &R,
+    bytes: &[u8],
+    has_read: bool,
+) -> Result<(u8, u64), Fail> {
+    let stream = at_centre(
+        rt,
+        |rt: &R, centre: &mut Centre| begun(rt, centre, has_read),
+    )?;
+    Ok(outcome_over(stream, bytes))
 }
 
 #[test]
-fn a_feed_whose_server_goes_is_fault_43(rt: HostRuntime) -> Result<(), Fail> {
-    assert_eq!(rt; told_when_the_server_goes(&rt, false)?, 43);
-    assert_eq!(rt; told_when_the_server_goes(&rt, true)?, 43);
+fn a_feed_whose_server_turned_it_away_or_goes_is_fault_43(rt: HostRuntime) -> Result<(), Fail> {
+    let bytes = some_records(rt.alloc(), 2, b"")?;
+    assert_eq!(rt; outcome_once_away(&rt, &bytes)?, (43, 0));
+    assert_eq!(rt; outcome_once_gone(&rt, &bytes, false)?, (43, 0));
+    assert_eq!(rt; outcome_once_gone(&rt, &bytes, true)?, (43, 0));
     Ok(())
 }
 
 /// How many records a long feed has, in pieces.
 const PIECES: u8 = 100;
 
-const IN_A_PIECE: u8 = 60;
+const IN_A_PIECE: u16 = 60;
 
-/// Sends many records piece by piece, with turns of the server between, so that nothing waits for room. The number of
-/// the fault at which that stopped, or 0.
-fn fault_of_many<S: Write>(centre: &mut Centre, stream: &mut Outer<S>, piece: &[u8]) -> u8 {
+/// Sends many records piece by piece, with turns of the server between, so that nothing waits for room. Whether all
+/// were sent.
+fn are_sent<S: Write>(centre: &mut Centre, stream: &mut Outer<S>, piece: &[u8]) -> bool {
     for _ in 0..PIECES {
-        if let Err(failure) = feed_records(&mut MemorySource::new(piece), stream) {
-            return failure.reason().number();
+        if feed_records(&mut MemorySource::new(piece), stream).is_err() {
+            return false;
         }
         centre.turns(1);
     }
-    0
+    true
 }
 
-/// What a feed that has sent all is told once the server has read it.
-fn told_at_the_end<S: OpenStream + Read + Write + Drop>(centre: &mut Centre, stream: S) -> u8 {
+/// What comes of a feed that has sent all, once the server has read it.
+fn outcome_at_the_end<S: OpenStream + Read + Write + Drop>(
+    centre: &mut Centre,
+    stream: S,
+) -> (u8, u64) {
     let begun = send_feed(stream, &mut MemorySource::new(b""));
     centre.turns(4);
-    fault_of(begun.and_then(|feed| feed.wait()))
+    outcome_of(begun.and_then(|feed| feed.wait()))
 }
 
-/// The fault of a long feed, or 0.
-fn told_after_many<R: Net + AllocGlobal>(rt: &R, centre: &mut Centre) -> Result<u8, Fail> {
-    let piece = many_records(rt.alloc(), IN_A_PIECE)?;
+/// Whether a long feed sends all, and what comes of it then.
+fn outcome_of_many<R: Net + AllocGlobal>(
+    rt: &R,
+    centre: &mut Centre,
+) -> Result<(bool, (u8, u64)), Fail> {
+    let piece = some_records(rt.alloc(), IN_A_PIECE, b"")?;
     let mut stream = Outer::new(connected(rt, centre)?);
-    match fault_of_many(centre, &mut stream, piece.as_slice()) {
-        0 => Ok(told_at_the_end(centre, stream.into_inner())),
-        fault => Ok(fault),
-    }
+    let are_sent = are_sent(centre, &mut stream, piece.as_slice());
+    Ok((are_sent, outcome_at_the_end(centre, stream.into_inner())))
 }
 
 #[test]
 fn a_long_feed_ends_in_order(rt: HostRuntime) -> Result<(), Fail> {
-    assert_eq!(rt; at_centre(&rt, told_after_many)?, 0);
-    Ok(())
-}
-
-/// The fault of waiting for the end of a connection over which these bytes come before it and where a read fails, or 0,
-/// and how often was read.
-fn ended_after(bytes: &[u8], due: u64) -> (u8, u64) {
-    let mut server = Failing::new(MemorySource::new(bytes), due);
-    let fault = match await_end(&mut server) {
-        Ok(()) => 0,
-        Err(failure) => failure.reason().number(),
-    };
-    (fault, server.counts().calls)
-}
-
-#[test]
-fn a_feed_port_that_answers_before_the_end_is_fault_52(rt: HostRuntime) -> Result<(), Fail> {
-    assert_eq!(rt; ended_after(b"", 0), (0, 1));
-    assert_eq!(rt; ended_after(b"", 1), (43, 1));
-    assert_eq!(rt; ended_after(b"x", 0), (52, 1));
-    Ok(())
-}
-
-/// A port that the system chose, which is free again.
-fn free_port<R: Net + AllocGlobal>(rt: &R) -> Result<u16, Fail> {
-    let ports = MioPorts::listen(rt, rt.alloc(), any_port(), any_port())?;
-    Ok(ports.bound().1)
-}
-
-/// Whether a feed to a port at which nobody listens fails at the connection.
-fn is_not_connected<R: Net + AllocGlobal>(rt: &R) -> Result<bool, Fail> {
-    let port = free_port(rt)?;
-    let bytes = two_records(rt.alloc(), b"")?;
-    let begun = begin_feed(rt, here(port), &mut MemorySource::new(bytes.as_slice()));
-    Ok(matches!(begun, Err(Failure::Connect)))
-}
-
-#[test]
-fn a_feed_to_a_closed_port_is_fault_47(rt: HostRuntime) -> Result<(), Fail> {
-    assert!(rt; is_not_connected(&rt)?);
-    assert_eq!(rt; Failure::Connect.reason().number(), 47);
+    assert_eq!(rt; at_centre(&rt, outcome_of_many)?, (true, (0, 0)));
     Ok(())
 }

@@ -14,17 +14,17 @@ mod ends;
 #[cfg(test)]
 mod feeds;
 #[cfg(test)]
+mod finish;
+#[cfg(test)]
 mod hostile;
 #[cfg(test)]
 mod libslink;
 #[cfg(test)]
+mod play;
+#[cfg(test)]
 mod reads;
 #[cfg(test)]
-mod records;
-#[cfg(test)]
 mod reloads;
-#[cfg(test)]
-mod serves;
 #[cfg(test)]
 mod slow;
 #[cfg(test)]

@@ -1,39 +1,77 @@
 //! What `read` does over sockets.
-use crate::records::send;
+use crate::play::{Arrival, arrive, peer};
 use incidents::Failure;
 use loopback::{Centre, at_centre, record};
+use mio::net::TcpStream;
 use reader_run::{Gathered, ListingFault, Times, read_over};
 use sl_io::{MemorySink, Outer};
 use slreader::{Plan, Want, Window};
-use std::alloc::Global;
+use std::alloc::{AllocError, Global};
 use std::io;
-use std::io::{Read, Write};
-use std::net::{Net, OpenStream};
+use std::io::Read;
+use std::net::Net;
 use std::test::Fail;
 
 /// A client's connection that seems to wait: the server has its turns whenever nothing is there to be read.
 #[derive(Drop)]
-struct Waiting<'a, S> {
+struct Waiting<'a> {
     centre: &'a mut Centre,
-    client: S,
+    client: &'a TcpStream,
 }
 
-impl<'a, S: Read> Read for Waiting<'a, S> {
+impl<'a> Read for Waiting<'a> {
     fn read(&mut self, buffer: &mut [u8]) -> io::Result<usize> {
         let most = buffer.len();
-        Ok(self.centre.read(&mut self.client, buffer)?.min(most))
+        let mut client = self.client;
+        Ok(self.centre.read(&mut client, buffer)?.min(most))
     }
 }
 
-/// Two records of GE APE, and one of GE WLF.
-fn feed<R: Net>(rt: &R, centre: &mut Centre) -> Result<(), Fail> {
-    let mut feed = centre.feed(rt)?;
-    send(&mut feed, b"APE", b"BHZ", 1)?;
-    send(&mut feed, b"WLF", b"BHN", 2)?;
-    send(&mut feed, b"APE", b"BHE", 3)?;
-    centre.turns(3);
-    Ok(())
+/// What a reader asks for; the lines and the records that it writes then, and the number of the fault at which it ends,
+/// or 0.
+struct Row {
+    words: &'static [&'static [u8]],
+    lines: &'static [u8],
+    records: &'static [Arrival],
+    fault: u8,
 }
+
+/// What the server holds.
+static HELD: [Arrival; 3] = [
+    (b"APE", b"BHZ", 1),
+    (b"WLF", b"BHN", 2),
+    (b"APE", b"BHE", 3),
+];
+
+static ROWS: [Row; 3] = [
+    Row {
+        words: &[b"GE_APE", b"ZZ_SHUT", b"GE_WLF:BH?"],
+        lines: b"refused ZZ SHUT
+000000 GE APE -- BHZ D 17091648000000 17091648000100 1
+FFFFFE GE WLF -- BHN D 17091648000000 17091648000200 2
+000001 GE APE -- BHE D 17091648000000 17091648000300 3
+",
+        records: &[
+            (b"APE", b"BHZ", 1),
+            (b"WLF", b"BHN", 2),
+            (b"APE", b"BHE", 3),
+        ],
+        fault: 0,
+    },
+    // A reader goes on with the number behind the last one that it has.
+    Row {
+        words: &[b"GE_APE@000001"],
+        lines: b"000001 GE APE -- BHE D 17091648000000 17091648000300 3\n",
+        records: &[(b"APE", b"BHE", 3)],
+        fault: 0,
+    },
+    Row {
+        words: &[b"ZZ_SHUT", b"GE_NONE"],
+        lines: b"refused ZZ SHUT\nrefused GE NONE\n",
+        records: &[],
+        fault: 51,
+    },
+];
 
 /// A plan of words.
 fn plan<'a>(alloc: Global, words: &[&'a [u8]]) -> Result<Plan<'a>, Fail> {
@@ -44,23 +82,25 @@ fn plan<'a>(alloc: Global, words: &[&'a [u8]]) -> Result<Plan<'a>, Fail> {
     Ok(Plan::Multi(wants))
 }
 
-/// What a reader wrote, and why it stopped if it did.
-#[derive(Drop)]
-struct Listed {
-    lines: MemorySink,
-    records: MemorySink,
-    fault: Option<ListingFault>,
+/// Whether these bytes are those records.
+fn are_records(bytes: &[u8], arrivals: &[Arrival]) -> bool {
+    let is_same = |(written, (station, channel, samples)): (&[u8], &Arrival)| {
+        matches!(record(station, channel, *samples), Ok(record) if written == record.as_slice())
+    };
+    bytes.len() == arrivals.len().saturating_mul(512)
+        && bytes.chunks(512).zip(arrivals).all(is_same)
 }
 
-/// Reads what a server sends for a plan over a connection.
-fn list_over<S: Read + Drop, T: Write + Drop>(
+/// Whether a reader of a plan writes over a connection what a row says.
+fn lists_over(
     alloc: Global,
+    centre: &mut Centre,
+    client: &TcpStream,
     plan: Plan<'_>,
-    client: S,
-    asking: T,
-) -> Listed {
-    let mut reader = Outer::new(client);
-    let mut writer = Outer::new(asking);
+    row: &Row,
+) -> bool {
+    let mut reader = Outer::new(Waiting { centre, client });
+    let mut writer = Outer::new(client);
     let mut lines = MemorySink::new(alloc);
     let mut records = Gathered::new(alloc, MemorySink::new(alloc));
     let ended = read_over(
@@ -72,114 +112,55 @@ fn list_over<S: Read + Drop, T: Write + Drop>(
         &mut lines,
         &mut records,
     );
-    Listed {
-        lines,
-        records: records.into_sink(),
-        fault: ended.err(),
-    }
+    let fault = match ended {
+        Ok(()) => 0,
+        Err(fault) => fault.reason().number(),
+    };
+    fault == row.fault
+        && lines.bytes() == row.lines
+        && are_records(records.into_sink().bytes(), row.records)
 }
 
-/// Reads what a server sends for a plan of words.
-fn read<R: Net + AllocGlobal>(
-    rt: &R,
-    centre: &mut Centre,
-    words: &[&[u8]],
-) -> Result<Listed, Fail> {
-    let client = centre.client(rt)?;
-    let asking = client.try_clone()?;
-    let plan = plan(rt.alloc(), words)?;
-    Ok(list_over(rt.alloc(), plan, Waiting { centre, client }, asking))
-}
-
-const LINES: &[u8] = b"refused ZZ SHUT
-000000 GE APE -- BHZ D 17091648000000 17091648000100 1
-FFFFFE GE WLF -- BHN D 17091648000000 17091648000200 2
-000001 GE APE -- BHE D 17091648000000 17091648000300 3
-";
-
-/// Whether a reader ended well, and wrote those lines, and so many bytes of records, of which that is the first.
-fn has_listed(listed: &Listed, lines: &[u8], length: usize, first: &[u8; 512]) -> bool {
-    let written = listed.records.bytes();
-    listed.fault.is_none()
-        && written.len() == length
-        && written.starts_with(first)
-        && listed.lines.bytes() == lines
-}
-
-/// Whether a reader of a server that was fed writes those lines, and so many bytes of records, of which that is the
-/// first.
-fn lists<R: Net + AllocGlobal>(
-    rt: &R,
-    centre: &mut Centre,
-    words: &[&[u8]],
-    lines: &[u8],
-    records: (usize, [u8; 512]),
-) -> Result<bool, Fail> {
-    feed(rt, centre)?;
-    let listed = read(rt, centre, words)?;
-    Ok(has_listed(&listed, lines, records.0, &records.1))
+/// Whether a reader of a server that was fed writes what a row says.
+fn lists<R: Net + AllocGlobal>(rt: &R, centre: &mut Centre, row: &Row) -> Result<bool, Fail> {
+    let is_fed = arrive(rt, centre, &HELD);
+    let plan = plan(rt.alloc(), row.words)?;
+    let client = peer(rt, 1, centre.ports().0)?;
+    Ok(is_fed && lists_over(rt.alloc(), centre, &client, plan, row))
 }
 
 #[test]
 fn a_reader_lists_what_a_server_holds(rt: HostRuntime) -> Result<(), Fail> {
-    let records = (3 * 512, record(b"APE", b"BHZ", 1)?);
-    let words: [&[u8]; 3] = [b"GE_APE", b"ZZ_SHUT", b"GE_WLF:BH?"];
-    assert!(rt; at_centre(&rt, |rt, centre| lists(rt, centre, &words, LINES, records))?);
-    Ok(())
-}
-
-/// A reader goes on with the number behind the last one that it has.
-#[test]
-fn a_reader_goes_on_after_a_break(rt: HostRuntime) -> Result<(), Fail> {
-    let line = b"000001 GE APE -- BHE D 17091648000000 17091648000300 3\n";
-    let records = (512, record(b"APE", b"BHE", 3)?);
-    let words: [&[u8]; 1] = [b"GE_APE@000001"];
-    assert!(rt; at_centre(&rt, |rt, centre| lists(rt, centre, &words, line, records))?);
-    Ok(())
-}
-
-/// The number of the fault of a reader that is refused all that it asks for, if it tells of each.
-fn fault_of_the_refused<R: Net + AllocGlobal>(rt: &R, centre: &mut Centre) -> Result<u8, Fail> {
-    let listed = read(rt, centre, &[b"ZZ_SHUT", b"GE_NONE"])?;
-    if listed.lines.bytes() != b"refused ZZ SHUT\nrefused GE NONE\n".as_slice() {
-        return Err(Fail::from("other lines"));
+    for row in &ROWS {
+        assert!(rt; at_centre(&rt, |rt, centre| lists(rt, centre, row))?);
     }
-    let fault = listed.fault.ok_or("no fault")?;
-    Ok(fault.reason().number())
-}
-
-#[test]
-fn a_reader_that_is_refused_everything_is_fault_51(rt: HostRuntime) -> Result<(), Fail> {
-    assert_eq!(rt; at_centre(&rt, fault_of_the_refused)?, 51);
     Ok(())
 }
 
-/// The lines that explain why records could not be written to a file, for the system's reason if it gave one.
-fn explained(alloc: Global, reason: Option<io::Error>) -> Result<String, Fail> {
-    let failure = Failure::Packets(ListingFault::Write);
-    let incident = failure
+/// Whether the lines that explain why records could not be written to a file, for the system's reason if it gave one,
+/// are these.
+fn is_explained(
+    alloc: Global,
+    reason: Option<io::Error>,
+    wanted: &str,
+) -> Result<bool, AllocError> {
+    let incident = Failure::Packets(ListingFault::Write)
         .at_server("127.0.0.1:18000")
         .at_output("ape.mseed", reason);
-    Ok(format!(in alloc; "{incident}")?)
+    Ok(format!(in alloc; "{incident}")?.as_str() == wanted)
 }
+
+/// What is told of a file that is full, and of a write that fails for no reason.
+static TOLD: [&str; 2] = [
+    "  cause: not everything could be written\n  file: ape.mseed\n  \
+        reason: No space left on device (os error 28)\n",
+    "  cause: not everything could be written\n",
+];
 
 #[test]
 fn a_full_output_is_explained_with_its_file(rt: HostRuntime) -> Result<(), Fail> {
-    let full = explained(rt.alloc(), Some(io::Error::from_raw_os_error(28)))?;
-    assert_eq!(rt;
-        full.as_str(),
-        "  cause: not everything could be written\n  file: ape.mseed\n  \
-            reason: No space left on device (os error 28)\n"
-    );
-    Ok(())
-}
-
-#[test]
-fn a_write_that_fails_for_no_reason_is_explained_with_no_file(rt: HostRuntime) -> Result<(), Fail> {
-    let other = explained(rt.alloc(), None)?;
-    assert_eq!(rt;
-        other.as_str(),
-        "  cause: not everything could be written\n"
-    );
+    let full = Some(io::Error::from_raw_os_error(28));
+    assert!(rt; is_explained(rt.alloc(), full, TOLD[0])?);
+    assert!(rt; is_explained(rt.alloc(), None, TOLD[1])?);
     Ok(())
 }

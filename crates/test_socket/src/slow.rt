@@ -1,9 +1,10 @@
 //! Clients that don't read for a while.
-use crate::records::feed_forest;
-use loopback::{Centre, at_centre, record};
+use crate::play::Act::{Gives, Over, Say, Skips, Trees};
+use crate::play::Step::{By, Client, Clients, Forest, Turns};
+use crate::play::{FOLLOW, Play, first_to_fail};
+use loopback::{Centre, record};
 use sl_packet::{Seq, frame};
-use std::io::{Read, Write};
-use std::net::Net;
+use std::io::Read;
 use std::test::Fail;
 
 /// How many records GE WLF holds.
@@ -13,7 +14,7 @@ const HELD: u16 = 200;
 const MANY: u16 = 30_000;
 
 /// What a client read: how often packets were missing, how many came since, and the samples of the last one.
-#[derive(Clone, Copy, PartialEq, Debug, Drop)]
+#[derive(Clone, Copy, Drop)]
 struct Came {
     gaps: u16,
     since: u16,
@@ -38,7 +39,7 @@ fn with_packet(came: Came, samples: u16) -> Came {
 }
 
 /// Reads packets from that with no samples on, until none comes for a while.
-fn read_packets<S: Read>(centre: &mut Centre, client: &mut S) -> Result<Came, Fail> {
+fn read_packets<S: Read>(centre: &mut Centre, client: &mut S) -> Came {
     let mut came = Came {
         gaps: 0,
         since: 0,
@@ -46,72 +47,59 @@ fn read_packets<S: Read>(centre: &mut Centre, client: &mut S) -> Result<Came, Fa
     };
     let mut packet = [0u8; 520];
     for _ in 0..MANY {
-        if !centre.fills(client, &mut packet)? {
-            return Ok(came);
+        if !matches!(centre.fills(client, &mut packet), Ok(true)) {
+            return came;
         }
         came = with_packet(came, u16::from_be_bytes([packet[38], packet[39]]));
     }
-    Ok(came)
+    came
 }
 
-/// What a client reads that asks for all records and reads none until they have come; None if its commands are not
-/// answered.
-fn read_late<R: Net>(rt: &R, centre: &mut Centre) -> Result<Option<Came>, Fail> {
-    let mut client = centre.client(rt)?;
-    if !centre.answers(&mut client, b"STATION WLF GE\rDATA\rEND\r", b"OK\r\nOK\r\n")? {
-        return Ok(None);
-    }
-    feed_forest(rt, centre, MANY)?;
-    Ok(Some(read_packets(centre, &mut client)?))
-}
-
-#[test]
-fn a_client_that_did_not_read_goes_on_with_the_oldest_that_is_held(
-    rt: HostRuntime,
-) -> Result<(), Fail> {
-    let wanted = Came {
-        gaps: 1,
-        since: HELD,
-        last: MANY - 1,
-    };
-    assert_eq!(rt; at_centre(&rt, read_late)?, Some(wanted));
-    Ok(())
+/// Whether a client that follows GE WLF, and reads when many records have come, misses some once and then gets all that
+/// the server holds.
+pub fn skips_to_the_oldest<S: Read>(centre: &mut Centre, client: &mut S) -> bool {
+    let came = read_packets(centre, client);
+    came.gaps == 1 && came.since == HELD && came.last == MANY - 1
 }
 
 /// Whether a client reads so many packets of GE WLF, from the first one on.
-fn gives_packets<S: Read>(centre: &mut Centre, client: &mut S, count: u16) -> Result<bool, Fail> {
-    let mut number = Seq::of(0xFF_FFFE).ok_or("no number")?;
+pub fn gives_forest<S: Read>(centre: &mut Centre, client: &mut S, count: u16) -> bool {
+    let mut number = Seq::of(0xFF_FFFE);
     for samples in 0..count {
-        let packet = frame(number, &record(b"WLF", b"BHZ", samples)?);
-        if !centre.gives(client, &packet)? {
-            return Ok(false);
+        let (Some(this), Ok(record)) = (number, record(b"WLF", b"BHZ", samples)) else {
+            return false;
+        };
+        if !matches!(centre.gives(client, &frame(this, &record)), Ok(true)) {
+            return false;
         }
-        number = number.next();
+        number = Some(this.next());
     }
-    Ok(true)
+    true
 }
 
-/// Whether a client that reads only after the server has shut its connection reads all packets, END and the end.
-fn is_given_all_late<S: Read + Write>(centre: &mut Centre, client: &mut S) -> Result<bool, Fail> {
-    let said = b"STATION WLF GE\rFETCH\rEND\r";
-    if !centre.answers(client, said, b"OK\r\nOK\r\n")? {
-        return Ok(false);
-    }
-    centre.turns(20);
-    let is_shut = centre.clients() == 0;
-    let are_given = gives_packets(centre, client, HELD)? && centre.gives(client, b"END")?;
-    Ok(is_shut && are_given && centre.ends(client)?)
-}
-
-/// The same with a client that comes for it, when all records have come.
-fn late_client_is_given_all<R: Net>(rt: &R, centre: &mut Centre) -> Result<bool, Fail> {
-    feed_forest(rt, centre, HELD)?;
-    let mut client = centre.client(rt)?;
-    is_given_all_late(centre, &mut client)
-}
+static PLAYS: [Play; 2] = [
+    Play {
+        shows: "a client that did not read goes on with the oldest that is held",
+        steps: &[Client(1), By(0, FOLLOW), Forest(MANY), By(0, Skips)],
+    },
+    // It reads only after the server has shut its connection, behind 100 kilobytes.
+    Play {
+        shows: "the end reaches a slow reader",
+        steps: &[
+            Forest(HELD),
+            Client(1),
+            By(0, Say(b"STATION WLF GE\rFETCH\rEND\r", b"OK\r\nOK\r\n")),
+            Turns(20),
+            Clients(0),
+            By(0, Trees(HELD)),
+            By(0, Gives(b"END")),
+            By(0, Over),
+        ],
+    },
+];
 
 #[test]
-fn the_end_reaches_a_slow_reader_behind_100_kilobytes(rt: HostRuntime) -> Result<(), Fail> {
-    assert!(rt; at_centre(&rt, late_client_is_given_all)?);
+fn slow_clients_are_served(rt: HostRuntime) -> Result<(), Fail> {
+    assert_eq!(rt; first_to_fail(&rt, &PLAYS)?, None);
     Ok(())
 }
