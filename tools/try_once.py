@@ -215,6 +215,9 @@ def try_all(program, room, stops):
             stopped.end(random.choice((signal.SIGKILL, signal.SIGTERM)))
             time.sleep(random.random() * 0.2)
             stopped.start()
+        # The last server is fed too: what an earlier one alone held is not missing of it.
+        await_listener(feed)
+        time.sleep(1.5)
         again.is_over = True
         again.join()
         await_listener(feed)
