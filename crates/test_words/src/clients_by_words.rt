@@ -1,18 +1,15 @@
 //! The jobs `feed` and `read` as the words of a command line start them: while they wait for their connection, the
 //! server that they talk to has turns.
-use crate::outcome::{Outcome, holds, job_of};
+use crate::outcome::{Outcome, job_of};
 use loopback::{Actor, Centre, at_centre, record};
 use std::alloc::Global;
 use std::cell::RefCell;
 use std::fs::{self, File};
+use std::io::Write;
 use std::net::Net;
 use std::os::fd::AsRawFd;
 use std::rt::Files;
 use std::test::Fail;
-
-/// The lines of two records of GE APE.
-static LINES: &str = "000000 GE APE -- BHZ D 17091648000000 17091648000100 1\n\
-    000001 GE APE -- BHZ D 17091648000000 17091648000200 2\n";
 
 /// A server that has a turn while a job waits.
 #[derive(Drop)]
@@ -45,53 +42,6 @@ where
     job_of(rt, &server, line.as_str())
 }
 
-/// Two records of GE APE.
-fn two_records(alloc: Global) -> Result<Vec<u8>, Fail> {
-    let mut bytes = record(b"APE", b"BHZ", 1)?.to_vec(alloc)?;
-    bytes.extend_from_slice(&record(b"APE", b"BHZ", 2)?)?;
-    Ok(bytes)
-}
-
-/// A file of two records.
-fn make_two<R: Files + AllocGlobal>(rt: &R) -> Result<(), Fail> {
-    let records = two_records(rt.alloc())?;
-    fs::write(rt, "two.mseed", records.as_slice())?;
-    Ok(())
-}
-
-/// Whether the job `feed` sends a server two records, and tells so.
-fn is_fed<R>(rt: &R, centre: &mut Centre) -> Result<bool, Fail>
-where
-    R: Files<File = File> + Net + AllocGlobal,
-    R::File: AsRawFd,
-{
-    make_two(rt)?;
-    let (_, feeds) = centre.ports();
-    let line = "seedlinkd feed 127.0.0.1:PORT two.mseed -v";
-    let fed = outcome_of(rt, centre, line, feeds)?;
-    Ok(fed.is_success() && fed.errors.as_str() == "sent 2 records\n")
-}
-
-/// Sends the second of two records alone.
-fn feed_second<R>(rt: &R, centre: &mut Centre) -> Result<Outcome, Fail>
-where
-    R: Files<File = File> + Net + AllocGlobal,
-    R::File: AsRawFd,
-{
-    make_two(rt)?;
-    let (_, feeds) = centre.ports();
-    let line = "seedlinkd feed 127.0.0.1:PORT two.mseed --from 2 -v";
-    outcome_of(rt, centre, line, feeds)
-}
-
-#[test]
-fn feed_begins_at_a_record(rt: HostRuntime) -> Result<(), Fail> {
-    let fed = at_centre(&rt, feed_second)?;
-    assert!(rt; fed.is_success());
-    assert!(rt; fed.errors.as_str() == "sent 1 records\n", "{}", fed.errors);
-    Ok(())
-}
-
 /// Does a reader's job, in which PORT is the server's port for clients.
 pub fn read_of<R>(rt: &R, centre: &mut Centre, line: &str) -> Result<Outcome, Fail>
 where
@@ -102,270 +52,413 @@ where
     outcome_of(rt, centre, line, clients)
 }
 
-/// The same at a server that was fed two records by the job `feed`.
-pub fn read_of_two<R>(rt: &R, centre: &mut Centre, line: &str) -> Result<Outcome, Fail>
-where
-    R: Files<File = File> + Net + AllocGlobal,
-    R::File: AsRawFd,
-{
-    if !is_fed(rt, centre)? {
-        return Err(Fail::from("the records were not sent"));
+/// A piece of a file, or of what a job writes.
+enum Piece {
+    /// Bytes as they stand.
+    Bytes(&'static [u8]),
+    /// The record of GE APE with so many samples.
+    Record(u16),
+}
+
+/// What a job writes to the standard error.
+enum Told {
+    /// This.
+    Is(&'static str),
+    /// This, and then more.
+    Begins(&'static str),
+    /// This among more.
+    Has(&'static str),
+}
+
+/// What a job writes to the standard output.
+enum Output {
+    Is(&'static [Piece]),
+    Any,
+}
+
+/// A step of what is done at a server.
+enum Step {
+    /// A file is made.
+    Make(&'static str, &'static [u8]),
+    /// A folder is made.
+    Folder(&'static str),
+    /// Somebody else locks a file.
+    Lock(&'static str),
+    /// The job `feed` with those words ends well, and tells this.
+    Feed(&'static str, &'static str),
+    /// Two records come whose channel names no folder.
+    FeedUnplaced,
+    /// The job `read` with those words ends well or not, and writes and tells this.
+    Read(&'static str, bool, Output, Told),
+    /// A file holds this.
+    Holds(&'static str, &'static [Piece]),
+}
+
+use Piece::{Bytes, Record};
+use Step::{Feed, FeedUnplaced, Folder, Holds, Lock, Make, Read};
+use Told::{Begins, Has, Is};
+
+/// The lines of two records of GE APE, and that of the second.
+const LINES: &str = "000000 GE APE -- BHZ D 17091648000000 17091648000100 1\n\
+    000001 GE APE -- BHZ D 17091648000000 17091648000200 2\n";
+
+const LISTED: Output = Output::Is(&[Bytes(
+    b"000000 GE APE -- BHZ D 17091648000000 17091648000100 1\n\
+    000001 GE APE -- BHZ D 17091648000000 17091648000200 2\n",
+)]);
+
+/// Nothing was written.
+const NOTHING: Output = Output::Is(&[]);
+
+static STEPS: [Step; 45] = [
+    Feed("two.mseed -v", "sent 2 records\n"),
+    // A file that ends inside a record is cut to whole ones first, and that end is put aside.
+    Make("ape.mseed", b"before"),
+    Read(
+        "GE_APE --fetch --output ape.mseed",
+        true,
+        LISTED,
+        Begins(""),
+    ),
+    Holds("ape.mseed", &[Record(1), Record(2)]),
+    Holds("ape.mseed.torn", &[Bytes(b"before")]),
+    // Records go to the standard output, and lines to the standard error.
+    Read(
+        "GE_APE --fetch --output -",
+        true,
+        Output::Is(&[Record(1), Record(2)]),
+        Is(LINES),
+    ),
+    // Records are added to the archive by stream and day.
+    Read("GE_APE --fetch --archive sds", true, LISTED, Begins("")),
+    Read("GE_APE --fetch --archive sds", true, LISTED, Begins("")),
+    Holds(
+        "sds/2024/GE/APE/BHZ.D/GE.APE..BHZ.D.2024.060",
+        &[Record(1), Record(2), Record(1), Record(2)],
+    ),
+    // Somebody else adds records of the station to the archive.
+    Read(
+        "GE_APE --fetch --archive shared",
+        true,
+        Output::Any,
+        Begins(""),
+    ),
+    Lock("shared/.GE_APE.lock"),
+    Read(
+        "GE_APE --fetch --archive shared -v",
+        false,
+        NOTHING,
+        Is(
+            "seedlinkd: 44 File\n  cause: a file could not be opened\n  file: shared\n  \
+                reason: another reader adds records of one of these stations\n",
+        ),
+    ),
+    // A file of wants is read like words, and its comments and empty lines are passed over.
+    Make("wants.txt", b"# of the island\n\nGE_APE\r\n"),
+    Read("--wants wants.txt --fetch", true, LISTED, Begins("")),
+    Make("broken.txt", b"GE_APE\n# next\nGE_APE:B?\n"),
+    Read(
+        "GE_APE --wants broken.txt -v",
+        false,
+        NOTHING,
+        Has("  file: broken.txt\n  line: 3\n  part: patterns\n"),
+    ),
+    // A reader goes on after what its state tells of, and adds nothing twice.
+    Make(
+        "longer.state",
+        b"GE APE 000000 17091648000100\nXX OLD 0000A3 -\n",
+    ),
+    Read(
+        "GE_APE --fetch --archive longer --state longer.state",
+        true,
+        Output::Is(&[Bytes(b"000001 GE APE -- BHZ D 17091648000000 17091648000200 2\n")]),
+        Begins(""),
+    ),
+    Holds(
+        "longer/2024/GE/APE/BHZ.D/GE.APE..BHZ.D.2024.060",
+        &[Record(2)],
+    ),
+    Holds(
+        "longer.state",
+        &[Bytes(
+            b"GE APE 000001 17091648000200\nXX OLD 0000A3 -\n#\n\
+                    2024/GE/APE/BHZ.D/GE.APE..BHZ.D.2024.060 1\n",
+        )],
+    ),
+    // A text that is no state, one that somebody else keeps, and one without a folder: nothing is read.
+    Make("broken.state", b"GE APE 1\n"),
+    Read(
+        "GE_APE --fetch --state broken.state -v",
+        false,
+        NOTHING,
+        Is(
+            "seedlinkd: 53 State\n  cause: the file with the state is not in lines of a network, a station, a \
+                number and an end\n  file: broken.state\n",
+        ),
+    ),
+    Make("shared.state.lock", b""),
+    Lock("shared.state.lock"),
+    Read(
+        "GE_APE --fetch --state shared.state -v",
+        false,
+        NOTHING,
+        Is(
+            "seedlinkd: 53 State\n  cause: the file with the state can't be read\n  \
+                file: shared.state\n  reason: another reader keeps this state\n",
+        ),
+    ),
+    Read(
+        "GE_APE --fetch --state none/ape.state",
+        false,
+        NOTHING,
+        Is("seedlinkd: 53 State\n"),
+    ),
+    // Where no state can be kept, the records are written all the same.
+    Folder("kept.state.new"),
+    Read(
+        "GE_APE --fetch --state kept.state --archive all",
+        false,
+        Output::Any,
+        Is("seedlinkd: 53 State\n"),
+    ),
+    Holds(
+        "all/2024/GE/APE/BHZ.D/GE.APE..BHZ.D.2024.060",
+        &[Record(1), Record(2)],
+    ),
+    // With one file nothing is read: its length is kept before the first record.
+    Folder("named.state.new"),
+    Read(
+        "GE_APE --fetch --state named.state --output one.mseed",
+        false,
+        NOTHING,
+        Is("seedlinkd: 53 State\n"),
+    ),
+    // An archive that is a file, and one of which the folder of a year is.
+    Make("file", b""),
+    Read(
+        "GE_APE --fetch --archive file -v",
+        false,
+        NOTHING,
+        Begins("seedlinkd: 44 File\n  cause: a file could not be opened\n  file: file\n  reason: "),
+    ),
+    Folder("half"),
+    Make("half/2024", b""),
+    Read(
+        "GE_APE --fetch --archive half -v",
+        false,
+        NOTHING,
+        Begins(
+            "seedlinkd: 43 Write\n  cause: not everything could be written\n  \
+                file: half/2024/GE/APE/",
+        ),
+    ),
+    // Wants that are refused are told, but not where no option asks for more than the lines.
+    Read(
+        "GE_APE GE_NONE ZZ_SHUT --fetch --archive refused",
+        true,
+        Output::Any,
+        Is("seedlinkd: refused GE NONE\nseedlinkd: refused ZZ SHUT\n"),
+    ),
+    Read(
+        "GE_APE GE_NONE --fetch --output plain.mseed",
+        true,
+        Output::Any,
+        Is(""),
+    ),
+    // The server doesn't hold the number after that of the state, and hands out the oldest that it holds. Of some
+    // records of a station the numbers jump though nothing is missing.
+    Make("ahead.state", b"GE APE 000005 17091648000100\n"),
+    Read(
+        "GE_APE --fetch --state ahead.state",
+        true,
+        Output::Any,
+        Is("seedlinkd: gap GE APE 000005 000000\n"),
+    ),
+    Make("some.state", b"GE APE 000005 17091648000100\n"),
+    Read(
+        "GE_APE:BH? --fetch --state some.state",
+        true,
+        Output::Any,
+        Is(""),
+    ),
+    Feed("two.mseed --from 2 -v", "sent 1 records\n"),
+    // The first without a place is told at once, and the other one at the end, which comes within the hour.
+    FeedUnplaced,
+    Read(
+        "GE_APE --fetch --archive unplaced",
+        true,
+        Output::Any,
+        Is(
+            "seedlinkd: records without a place in the archive: 1\n\
+                seedlinkd: records without a place in the archive: 2\n",
+        ),
+    ),
+];
+
+/// What stands behind a piece; None if these bytes don't begin with it.
+fn behind<'a>(bytes: &'a [u8], piece: &Piece) -> Option<&'a [u8]> {
+    match piece {
+        Bytes(piece) => bytes.strip_prefix(*piece),
+        Record(samples) => match record(b"APE", b"BHZ", *samples) {
+            Ok(record) => bytes.strip_prefix(record.as_slice()),
+            Err(_) => None,
+        },
     }
-    read_of(rt, centre, line)
 }
 
-/// The same at a server of its own, on the runtime of a test.
-pub fn read(rt: &HostRuntime, line: &str) -> Result<Outcome, Fail> {
-    at_centre(rt, |rt, centre| read_of_two(rt, centre, line))
+/// Whether these bytes are those pieces.
+fn are_pieces(bytes: &[u8], pieces: &[Piece]) -> bool {
+    let mut left = bytes;
+    for piece in pieces {
+        match behind(left, piece) {
+            Some(rest) => left = rest,
+            None => return false,
+        }
+    }
+    left.is_empty()
 }
 
-/// Whether a file holds two records behind these bytes.
-fn holds_two_behind<R: Files + AllocGlobal>(
+/// Whether the standard error says that.
+fn is_told(errors: &str, told: &Told) -> bool {
+    match told {
+        Is(text) => errors == *text,
+        Begins(text) => errors.starts_with(*text),
+        Has(text) => errors.contains(*text),
+    }
+}
+
+/// Whether a job ended so, and wrote and told that.
+fn is_so(outcome: &Outcome, is_success: bool, output: &Output, told: &Told) -> bool {
+    let has_written = match output {
+        Output::Is(pieces) => are_pieces(outcome.output.as_slice(), pieces),
+        Output::Any => true,
+    };
+    has_written && outcome.is_success() == is_success && is_told(outcome.errors.as_str(), told)
+}
+
+/// The command line of the job `feed` or `read` at a port.
+fn line_of(alloc: Global, job: &str, words: &str) -> Result<String, Fail> {
+    Ok(format!(in alloc; "seedlinkd {job} 127.0.0.1:PORT {words}")?)
+}
+
+/// Does the job `feed` or `read` with some words at a port of the server.
+fn client<R>(
     rt: &R,
-    path: &str,
-    before: &[u8],
-) -> Result<bool, Fail> {
-    let kept = fs::read(rt, path)?;
-    let records = two_records(rt.alloc())?;
-    Ok(kept.as_slice().strip_prefix(before) == Some(records.as_slice()))
-}
-
-/// A file that ends inside a record is cut to whole ones first, and that end is put aside.
-#[test]
-fn read_lists_packets_and_adds_their_records_to_a_file(rt: HostRuntime) -> Result<(), Fail> {
-    fs::write(&rt, "ape.mseed", b"before")?;
-    let line = "seedlinkd read 127.0.0.1:PORT GE_APE --fetch --output ape.mseed";
-    assert!(rt; read(&rt, line)?.has_written(LINES.as_bytes()));
-    assert!(rt; holds_two_behind(&rt, "ape.mseed", b"")?);
-    assert!(rt; holds(&rt, "ape.mseed.torn", b"before")?);
-    Ok(())
-}
-
-/// Whether a job ended well, wrote two records to the standard output, and their lines to the standard error.
-fn has_written_records(read: &Outcome, records: &[u8]) -> bool {
-    read.has_written(records) && read.errors.as_str() == LINES
-}
-
-#[test]
-fn read_writes_records_to_the_standard_output_and_lines_to_the_standard_error(
-    rt: HostRuntime,
-) -> Result<(), Fail> {
-    let records = two_records(rt.alloc())?;
-    let line = "seedlinkd read 127.0.0.1:PORT GE_APE --fetch --output -";
-    assert!(rt; has_written_records(&read(&rt, line)?, records.as_slice()));
-    Ok(())
-}
-
-/// Whether two readers' jobs, one after the other, write both lines each.
-fn lists_two_twice<R>(rt: &R, centre: &mut Centre, line: &str) -> Result<bool, Fail>
+    centre: &mut Centre,
+    job: &str,
+    words: &str,
+    port: u16,
+) -> Result<Outcome, Fail>
 where
     R: Files<File = File> + Net + AllocGlobal,
     R::File: AsRawFd,
 {
-    let first = read_of_two(rt, centre, line)?.has_written(LINES.as_bytes());
-    Ok(first && read_of(rt, centre, line)?.has_written(LINES.as_bytes()))
+    let line = line_of(rt.alloc(), job, words)?;
+    outcome_of(rt, centre, line.as_str(), port)
 }
 
-/// Whether a file holds two records twice, and nothing else.
-fn holds_two_twice<R: Files + AllocGlobal>(rt: &R, path: &str) -> Result<bool, Fail> {
-    let once = two_records(rt.alloc())?;
-    holds_two_behind(rt, path, once.as_slice())
+/// Whether the job `feed` with some words ends well and tells this.
+fn feeds<R>(rt: &R, centre: &mut Centre, words: &str, told: &str) -> Result<bool, Fail>
+where
+    R: Files<File = File> + Net + AllocGlobal,
+    R::File: AsRawFd,
+{
+    let port = centre.ports().1;
+    let outcome = client(rt, centre, "feed", words, port)?;
+    Ok(outcome.is_success() && outcome.errors.as_str() == told)
 }
 
-#[test]
-fn read_adds_records_to_the_archive_by_stream_and_day(rt: HostRuntime) -> Result<(), Fail> {
-    let line = "seedlinkd read 127.0.0.1:PORT GE_APE --fetch --archive sds";
-    assert!(rt; at_centre(&rt, |rt, centre| lists_two_twice(rt, centre, line))?);
-    assert!(rt; holds_two_twice(&rt, "sds/2024/GE/APE/BHZ.D/GE.APE..BHZ.D.2024.060")?);
-    Ok(())
+/// Whether the job `read` with some words ends so, and writes and tells this.
+fn reads<R>(
+    rt: &R,
+    centre: &mut Centre,
+    words: &str,
+    is_success: bool,
+    output: &Output,
+    told: &Told,
+) -> Result<bool, Fail>
+where
+    R: Files<File = File> + Net + AllocGlobal,
+    R::File: AsRawFd,
+{
+    let port = centre.ports().0;
+    let outcome = client(rt, centre, "read", words, port)?;
+    Ok(is_so(&outcome, is_success, output, told))
 }
 
-/// A file that is locked.
-fn locked<R: Files<File = File>>(rt: &R, path: &str) -> Result<File, Fail> {
+/// Two records of GE APE come whose channel names no folder.
+fn feed_unplaced<R: Net>(rt: &R, centre: &mut Centre) -> Result<bool, Fail> {
+    let mut bytes = record(b"APE", b"BHZ", 1)?;
+    bytes[16] = b'/';
+    let mut stream = centre.feed(rt)?;
+    let are_sent = stream.write_all(&bytes).is_ok() && stream.write_all(&bytes).is_ok();
+    centre.turns(2);
+    Ok(are_sent)
+}
+
+/// Locks a file, as long as it is kept among those that are locked.
+fn lock<R: Files<File = File>>(rt: &R, locked: &mut Vec<File>, path: &str) -> Result<bool, Fail> {
     let file = File::open(rt, path)?;
-    if file.try_lock().is_err() {
-        return Err(Fail::from("the file is locked already"));
-    }
-    Ok(file)
+    let is_locked = file.try_lock().is_ok();
+    locked.push(file)?;
+    Ok(is_locked)
 }
 
-/// What a reader's job comes to once another one, which ended well, has made an archive, while somebody else adds
-/// records of its station to it.
-fn read_beside_another<R>(rt: &R, centre: &mut Centre, line: &str) -> Result<Outcome, Fail>
+/// Whether a step goes as it says.
+fn goes<R>(rt: &R, centre: &mut Centre, locked: &mut Vec<File>, step: &Step) -> Result<bool, Fail>
 where
     R: Files<File = File> + Net + AllocGlobal,
     R::File: AsRawFd,
 {
-    if !read_of_two(rt, centre, line)?.is_success() {
-        return Err(Fail::from("the first job failed"));
+    match step {
+        Make(path, bytes) => Ok(fs::write(rt, *path, *bytes).is_ok()),
+        Folder(path) => Ok(fs::create_dir(rt, *path).is_ok()),
+        Lock(path) => lock(rt, locked, path),
+        Feed(words, told) => feeds(rt, centre, words, told),
+        FeedUnplaced => feed_unplaced(rt, centre),
+        Read(words, is_success, output, told) => {
+            reads(rt, centre, words, *is_success, output, told)
+        }
+        Holds(path, pieces) => Ok(are_pieces(fs::read(rt, *path)?.as_slice(), pieces)),
     }
-    let _lock = locked(rt, "shared/.GE_APE.lock")?;
-    read_of(rt, centre, line)
 }
 
-/// What is told of an archive of which a station is locked.
-static SHARED_ARCHIVE: &str =
-    "seedlinkd: 44 File\n  cause: a file could not be opened\n  file: shared\n  \
-    reason: another reader adds records of one of these stations\n";
-
-#[test]
-fn read_fails_at_an_archive_that_somebody_else_adds_to(rt: HostRuntime) -> Result<(), Fail> {
-    let line = "seedlinkd read 127.0.0.1:PORT GE_APE --fetch --archive shared -v";
-    let second = at_centre(&rt, |rt, centre| read_beside_another(rt, centre, line))?;
-    assert!(rt; second.has_failed_at_once());
-    assert_eq!(rt; second.errors.as_str(), SHARED_ARCHIVE);
-    Ok(())
+/// The place of the first step that goes otherwise.
+fn first_other<R>(
+    rt: &R,
+    centre: &mut Centre,
+    locked: &mut Vec<File>,
+) -> Result<Option<usize>, Fail>
+where
+    R: Files<File = File> + Net + AllocGlobal,
+    R::File: AsRawFd,
+{
+    for (place, step) in STEPS.iter().enumerate() {
+        if !goes(rt, centre, locked, step)? {
+            return Ok(Some(place));
+        }
+    }
+    Ok(None)
 }
 
-/// The state of a reader that has the first of two records.
-static STATE: &[u8] = b"GE APE 000000 17091648000100\nXX OLD 0000A3 -\n";
-
-/// The same once it has the second, with the file to which that was added, and the line of it.
-static LATER_STATE: &[u8] = b"GE APE 000001 17091648000200\nXX OLD 0000A3 -\n#\n\
-    2024/GE/APE/BHZ.D/GE.APE..BHZ.D.2024.060 1\n";
-
-static SECOND_LINE: &[u8] = b"000001 GE APE -- BHZ D 17091648000000 17091648000200 2\n";
-
-/// Whether the archive holds the second record alone.
-fn archive_has_second<R: Files + AllocGlobal>(rt: &R) -> Result<bool, Fail> {
-    let second = record(b"APE", b"BHZ", 2)?;
-    let path = "longer/2024/GE/APE/BHZ.D/GE.APE..BHZ.D.2024.060";
-    holds(rt, path, &second)
-}
-
-/// A file of wants is read like words, and its comments and empty lines are passed over.
-#[test]
-fn read_asks_for_the_wants_of_a_file(rt: HostRuntime) -> Result<(), Fail> {
-    fs::write(&rt, "wants.txt", b"# of the island\n\nGE_APE\r\n")?;
-    let line = "seedlinkd read 127.0.0.1:PORT --wants wants.txt --fetch";
-    assert!(rt; read(&rt, line)?.has_written(LINES.as_bytes()));
-    Ok(())
+/// The same with a file of two records.
+fn first_other_with_files<R>(rt: &R, centre: &mut Centre) -> Result<Option<usize>, Fail>
+where
+    R: Files<File = File> + Net + AllocGlobal,
+    R::File: AsRawFd,
+{
+    let mut bytes = [0u8; 1024];
+    bytes[..512].copy_from_slice(&record(b"APE", b"BHZ", 1)?);
+    bytes[512..].copy_from_slice(&record(b"APE", b"BHZ", 2)?);
+    fs::write(rt, "two.mseed", &bytes)?;
+    first_other(rt, centre, &mut Vec::new(rt.alloc()))
 }
 
 #[test]
-fn read_names_the_line_of_a_file_that_is_no_want(rt: HostRuntime) -> Result<(), Fail> {
-    fs::write(&rt, "broken.txt", b"GE_APE\n# next\nGE_APE:B?\n")?;
-    let line = "seedlinkd read 127.0.0.1:PORT GE_APE --wants broken.txt -v";
-    let read = read(&rt, line)?;
-    assert!(rt; read.has_failed_at_once());
-    assert!(rt;
-        read.errors
-            .as_str()
-            .contains("  file: broken.txt\n  line: 3\n  part: patterns\n"),
-        "{}",
-        read.errors
+fn clients_do_what_their_words_ask(rt: HostRuntime) -> Result<(), Fail> {
+    assert_eq!(rt;
+        at_centre(&rt, |rt, centre| first_other_with_files(rt, centre))?,
+        None
     );
-    Ok(())
-}
-
-/// Whether a reader that has such a state lists the second record alone.
-fn lists_second(rt: &HostRuntime) -> Result<bool, Fail> {
-    fs::write(rt, "longer.state", STATE)?;
-    let line = "seedlinkd read 127.0.0.1:PORT GE_APE --fetch --archive longer --state longer.state";
-    Ok(read(rt, line)?.has_written(SECOND_LINE))
-}
-
-/// A reader goes on after what its state tells of, and adds nothing twice.
-#[test]
-fn read_goes_on_after_its_state(rt: HostRuntime) -> Result<(), Fail> {
-    assert!(rt; lists_second(&rt)?);
-    assert!(rt; archive_has_second(&rt)?);
-    assert!(rt; holds(&rt, "longer.state", LATER_STATE)?);
-    Ok(())
-}
-
-/// What is told of a text that is no state.
-static BROKEN_STATE: &str =
-    "seedlinkd: 53 State\n  cause: the file with the state is not in lines of a network, a station, a \
-    number and an end\n  file: broken.state\n";
-
-#[test]
-fn read_fails_at_a_text_that_is_no_state(rt: HostRuntime) -> Result<(), Fail> {
-    fs::write(&rt, "broken.state", b"GE APE 1\n")?;
-    let line = "seedlinkd read 127.0.0.1:PORT GE_APE --fetch --state broken.state -v";
-    let read = read(&rt, line)?;
-    assert!(rt; read.has_failed_at_once());
-    assert_eq!(rt; read.errors.as_str(), BROKEN_STATE);
-    Ok(())
-}
-
-/// What is told of a state that is locked.
-static SHARED_STATE: &str =
-    "seedlinkd: 53 State\n  cause: the file with the state can't be read\n  \
-    file: shared.state\n  reason: another reader keeps this state\n";
-
-#[test]
-fn read_fails_at_a_state_that_somebody_else_keeps(rt: HostRuntime) -> Result<(), Fail> {
-    fs::write(&rt, "shared.state.lock", b"")?;
-    let _lock = locked(&rt, "shared.state.lock")?;
-    let line = "seedlinkd read 127.0.0.1:PORT GE_APE --fetch --state shared.state -v";
-    let second = read(&rt, line)?;
-    assert!(rt; second.has_failed_at_once());
-    assert_eq!(rt; second.errors.as_str(), SHARED_STATE);
-    Ok(())
-}
-
-/// Nothing is read.
-#[test]
-fn read_fails_where_a_state_has_no_folder(rt: HostRuntime) -> Result<(), Fail> {
-    let line = "seedlinkd read 127.0.0.1:PORT GE_APE --fetch --state none/ape.state";
-    let read = read(&rt, line)?;
-    assert!(rt; read.has_failed_at_once());
-    assert_eq!(rt; read.errors.as_str(), "seedlinkd: 53 State\n");
-    Ok(())
-}
-
-/// The records are written all the same.
-#[test]
-fn read_fails_where_no_state_can_be_kept(rt: HostRuntime) -> Result<(), Fail> {
-    fs::create_dir(&rt, "kept.state.new")?;
-    let line = "seedlinkd read 127.0.0.1:PORT GE_APE --fetch --state kept.state --archive all";
-    let read = read(&rt, line)?;
-    assert!(rt; !read.is_success());
-    assert_eq!(rt; read.errors.as_str(), "seedlinkd: 53 State\n");
-    drop(read);
-    let path = "all/2024/GE/APE/BHZ.D/GE.APE..BHZ.D.2024.060";
-    assert!(rt; holds_two_behind(&rt, path, b"")?);
-    Ok(())
-}
-
-/// With one file nothing is read: its length is kept before the first record.
-#[test]
-fn read_fails_where_the_length_of_its_file_is_not_kept(rt: HostRuntime) -> Result<(), Fail> {
-    fs::create_dir(&rt, "named.state.new")?;
-    let line =
-        "seedlinkd read 127.0.0.1:PORT GE_APE --fetch --state named.state --output one.mseed";
-    let read = read(&rt, line)?;
-    assert!(rt; read.has_failed_at_once());
-    assert_eq!(rt; read.errors.as_str(), "seedlinkd: 53 State\n");
-    Ok(())
-}
-
-/// Whether a reader's job fails before it writes a line, with these lines on the standard error before the system's
-/// reason.
-fn fails_with(rt: &HostRuntime, line: &str, lines: &str) -> Result<bool, Fail> {
-    let read = read(rt, line)?;
-    Ok(read.has_failed_at_once() && read.errors.as_str().starts_with(lines))
-}
-
-#[test]
-fn read_names_an_archive_that_is_a_file(rt: HostRuntime) -> Result<(), Fail> {
-    fs::write(&rt, "file", b"")?;
-    let line = "seedlinkd read 127.0.0.1:PORT GE_APE --fetch --archive file -v";
-    let lines = "seedlinkd: 44 File\n  cause: a file could not be opened\n  file: file\n  reason: ";
-    assert!(rt; fails_with(&rt, line, lines)?);
-    Ok(())
-}
-
-#[test]
-fn read_names_an_archive_of_which_the_folder_of_a_year_is_a_file(
-    rt: HostRuntime,
-) -> Result<(), Fail> {
-    fs::create_dir(&rt, "half")?;
-    fs::write(&rt, "half/2024", b"")?;
-    let line = "seedlinkd read 127.0.0.1:PORT GE_APE --fetch --archive half -v";
-    let lines = "seedlinkd: 43 Write\n  cause: not everything could be written\n  \
-        file: half/2024/GE/APE/";
-    assert!(rt; fails_with(&rt, line, lines)?);
     Ok(())
 }

@@ -1,8 +1,8 @@
 //! Jobs that fail, as the words of a command line start them: the status, the standard error, and which of several
 //! faults comes first.
-use crate::outcome::{Outcome, free_ports, job_of};
-use loopback::{Actor, any_port};
-use ports_socket::MioPorts;
+use crate::outcome::{Outcome, job_of};
+use loopback::{Actor, at_ports, free_ports};
+use ports_socket::{Admission, MioPorts};
 use std::alloc::Global;
 use std::cell::RefCell;
 use std::fs::{self, File};
@@ -33,7 +33,7 @@ struct Row {
 /// In each row but those with one fault, a later fault is due as well: the first one is reported. There are
 /// configurations `centre.toml`, `wrong.toml`, which has misspelled keys, and `broken.toml`; files of records
 /// `two.mseed` and `rest.mseed`, of which the second ends inside a record; and no file that begins with `no`.
-static ROWS: [Row; 31] = [
+static ROWS: [Row; 32] = [
     // A server: the address for clients, that for feeds, the configuration, and then the ports.
     Row {
         words: "seedlinkd -v serve no.toml --listen nowhere --feed elsewhere",
@@ -58,7 +58,14 @@ static ROWS: [Row; 31] = [
     Row {
         words: "seedlinkd -v serve centre.toml --listen 127.0.0.1:TAKEN --feed 127.0.0.1:TAKEN",
         line: "seedlinkd: 46 Listen\n",
-        names: "address: 127.0.0.1:TAKEN\n",
+        names: "  cause: an address can't be listened on\n  address: 127.0.0.1:TAKEN\n  \
+            reason: Address already in use (os error 98)\n",
+    },
+    Row {
+        words: "seedlinkd -v serve centre.toml --listen 127.0.0.1:0 --feed 127.0.0.1:TAKEN",
+        line: "seedlinkd: 46 Listen\n",
+        names: "  cause: an address can't be listened on\n  address: 127.0.0.1:TAKEN\n  \
+            reason: Address already in use (os error 98)\n",
     },
     Row {
         words: "seedlinkd serve centre.toml --listen 127.0.0.1:TAKEN --feed 127.0.0.1:0",
@@ -274,10 +281,14 @@ where
     R: Files<File = File> + Net + AllocGlobal,
     R::File: AsRawFd,
 {
-    let ports = MioPorts::listen(rt, rt.alloc(), any_port(), any_port())?;
-    let (taken, _) = ports.bound();
     let (free, _) = free_ports(rt)?;
-    first_other_row(rt, taken, free)
+    let all = Admission {
+        feed_from: None,
+        per_address: None,
+    };
+    at_ports(rt, all, |rt: &R, ports: &mut MioPorts| {
+        first_other_row(rt, ports.bound().0, free)
+    })
 }
 
 /// The files that the rows name.

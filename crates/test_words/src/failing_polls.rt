@@ -24,28 +24,33 @@ impl<R: Files<File = File> + Net + AllocGlobal> Actor<R> for Closer {
     fn serve(&mut self, _rt: &R) {}
 }
 
-/// The configuration is read again after each twentieth turn, and the polls fail after one reading and before the next.
+/// How often the configuration is read again, how the server ends then, and what it tells. Sixteen polls that fail end it;
+/// fifteen between two readings end nothing.
+static ROWS: [(&str, bool, &str); 2] = [
+    ("--reread 20", false, "seedlinkd: 40 Poll\n"),
+    ("--reread 15", true, ""),
+];
+
+/// Whether a server with one more option ends so and tells that, whose polls fail after one reading and before the next.
+fn ends_so(rt: &HostRuntime, more: &str, is_success: bool, told: &str) -> Result<bool, Fail> {
+    let closer = RefCell::new(Closer);
+    let line = format!(in rt.alloc();
+        "seedlinkd serve centre.toml --listen 127.0.0.1:0 --feed 127.0.0.1:0 --turns 60 {more}"
+    )?;
+    let outcome = job_of(rt, &closer, line.as_str())?;
+    let is_failure = outcome.status == ExitCode::FAILURE;
+    Ok(
+        outcome.is_success() == is_success
+            && is_failure != is_success
+            && outcome.errors.as_str() == told,
+    )
+}
+
 #[test]
 fn sixteen_polls_that_fail_end_a_server_with_status_1(rt: HostRuntime) -> Result<(), Fail> {
     make_files(&rt)?;
-    let closer = RefCell::new(Closer);
-    let line =
-        "seedlinkd serve centre.toml --listen 127.0.0.1:0 --feed 127.0.0.1:0 --reread 20 --turns 60";
-    let outcome = job_of(&rt, &closer, line)?;
-    assert!(rt; outcome.status == ExitCode::FAILURE);
-    assert_eq!(rt; outcome.errors.as_str(), "seedlinkd: 40 Poll\n");
-    Ok(())
-}
-
-/// Polls that fail fifteen times between two readings end nothing.
-#[test]
-fn fifteen_polls_that_fail_end_nothing(rt: HostRuntime) -> Result<(), Fail> {
-    make_files(&rt)?;
-    let closer = RefCell::new(Closer);
-    let line =
-        "seedlinkd serve centre.toml --listen 127.0.0.1:0 --feed 127.0.0.1:0 --reread 15 --turns 60";
-    let outcome = job_of(&rt, &closer, line)?;
-    assert!(rt; outcome.is_success());
-    assert_eq!(rt; outcome.errors.as_str(), "");
+    for &(more, is_success, told) in &ROWS {
+        assert!(rt; ends_so(&rt, more, is_success, told)?, "{more}");
+    }
     Ok(())
 }

@@ -1,6 +1,7 @@
 //! A reader that follows servers which end while records come: it keeps how far it is, and has each record once.
+use crate::clients_by_words::read_of;
 use crate::outcome::{Outcome, holds, job_of};
-use loopback::{Actor, Centre, LOOPBACK_CENTRE, record};
+use loopback::{Actor, Centre, LOOPBACK_CENTRE, at_centres, end_last, record};
 use std::alloc::Global;
 use std::cell::RefCell;
 use std::fs::File;
@@ -44,8 +45,8 @@ static ERRORS: &str = "seedlinkd: 42 Read\nseedlinkd: 42 Read\nseedlinkd: refuse
 
 /// Servers of which one after the other ends while a reader waits: the one that ends next stands last.
 #[derive(Drop)]
-struct Site {
-    servers: Vec<Centre>,
+struct Site<'a> {
+    servers: &'a mut Vec<Centre>,
     turns: u32,
 }
 
@@ -60,12 +61,6 @@ fn feed<R: Net>(rt: &R, centre: &mut Centre, samples: u16) -> io::Result<()> {
     Ok(())
 }
 
-/// One more server.
-fn add<R: Net + AllocGlobal>(rt: &R, servers: &mut Vec<Centre>, config: &[u8]) -> Result<(), Fail> {
-    servers.push(Centre::open(rt, config)?)?;
-    Ok(())
-}
-
 /// A record comes to the server that ends next.
 fn feed_last<R: Net>(rt: &R, servers: &mut [Centre], samples: u16) -> io::Result<()> {
     match servers.last_mut() {
@@ -74,24 +69,21 @@ fn feed_last<R: Net>(rt: &R, servers: &mut [Centre], samples: u16) -> io::Result
     }
 }
 
-/// One more server, which was fed two records of GE APE.
-fn add_fed<R: Net + AllocGlobal>(rt: &R, servers: &mut Vec<Centre>) -> Result<(), Fail> {
-    add(rt, servers, LOOPBACK_CENTRE)?;
-    feed_last(rt, servers.as_mut_slice(), 1)?;
-    feed_last(rt, servers.as_mut_slice(), 2)?;
+/// Two records of GE APE come to a server.
+fn feed_two<R: Net>(rt: &R, centre: &mut Centre) -> io::Result<()> {
+    feed(rt, centre, 1)?;
+    feed(rt, centre, 2)
+}
+
+/// Two records of GE APE come to each server but the first.
+fn feed_others<R: Net>(rt: &R, servers: &mut [Centre]) -> io::Result<()> {
+    for server in servers.iter_mut().skip(1) {
+        feed_two(rt, server)?;
+    }
     Ok(())
 }
 
-/// A server that has not the station, and two with two records each, which end before it.
-fn three_servers<R: Net + AllocGlobal>(rt: &R) -> Result<Vec<Centre>, Fail> {
-    let mut servers = Vec::new(rt.alloc());
-    add(rt, &mut servers, ELSEWHERE)?;
-    add_fed(rt, &mut servers)?;
-    add_fed(rt, &mut servers)?;
-    Ok(servers)
-}
-
-impl Site {
+impl Site<'_> {
     /// The server that ends next makes a turn.
     fn turn(&mut self) {
         if let Some(server) = self.servers.last_mut() {
@@ -101,11 +93,11 @@ impl Site {
 
     /// It ends.
     fn end_one(&mut self) {
-        let _gone = self.servers.pop();
+        end_last(self.servers);
     }
 }
 
-impl<R: Net> Actor<R> for Site {
+impl<R: Net> Actor<R> for Site<'_> {
     fn act(&mut self, _rt: &R, _opened: u32) {}
 
     fn serve(&mut self, rt: &R) {
@@ -138,16 +130,28 @@ fn line_of(alloc: Global, servers: &[Centre], more: &str) -> Result<String, Fail
     )?)
 }
 
-/// Follows three servers, with more words.
+/// Follows servers of which all but the first hold two records, with more words.
+fn follow_all<R>(rt: &R, servers: &mut Vec<Centre>, more: &str) -> Result<Outcome, Fail>
+where
+    R: Files<File = File> + Net + AllocGlobal,
+    R::File: AsRawFd,
+{
+    feed_others(rt, servers.as_mut_slice())?;
+    let line = line_of(rt.alloc(), servers.as_slice(), more)?;
+    let site = RefCell::new(Site { servers, turns: 0 });
+    job_of(rt, &site, line.as_str())
+}
+
+/// Follows three servers, of which the last has not the station, with more words.
 fn follow<R>(rt: &R, more: &str) -> Result<Outcome, Fail>
 where
     R: Files<File = File> + Net + AllocGlobal,
     R::File: AsRawFd,
 {
-    let servers = three_servers(rt)?;
-    let line = line_of(rt.alloc(), servers.as_slice(), more)?;
-    let site = RefCell::new(Site { servers, turns: 0 });
-    job_of(rt, &site, line.as_str())
+    let configs = [ELSEWHERE, LOOPBACK_CENTRE, LOOPBACK_CENTRE];
+    at_centres(rt, &configs, |rt: &R, servers: &mut Vec<Centre>| {
+        follow_all(rt, servers, more)
+    })
 }
 
 /// So many records of GE APE, one after the other.
@@ -191,38 +195,33 @@ fn each_record_is_archived_once_though_servers_end(rt: HostRuntime) -> Result<()
     Ok(())
 }
 
-/// Two servers, of which the first takes connections and says nothing.
-#[derive(Drop)]
-struct SilentFirst {
-    silent: Centre,
-    well: Centre,
-}
-
-impl<R: Net> Actor<R> for SilentFirst {
-    fn act(&mut self, _rt: &R, _opened: u32) {}
-
-    fn serve(&mut self, _rt: &R) {
-        self.well.turns(1);
+/// What a reader makes of two servers, one after the other, of which the first takes its connection and says nothing.
+fn read_past_the_first<R>(rt: &R, servers: &mut [Centre]) -> Result<Outcome, Fail>
+where
+    R: Files<File = File> + Net + AllocGlobal,
+    R::File: AsRawFd,
+{
+    feed_others(rt, servers)?;
+    let silent = port_of(servers, 0);
+    let line = format!(in rt.alloc();
+        "seedlinkd read 127.0.0.1:{silent},127.0.0.1:PORT GE_APE --fetch --timeout 30"
+    )?;
+    match servers.last_mut() {
+        Some(server) => read_of(rt, server, line.as_str()),
+        None => Err(Fail::from("no server")),
     }
 }
 
-/// What a reader makes of both, one after the other.
+/// The same with servers that are made for it.
 fn read_past_a_silent_one<R>(rt: &R) -> Result<Outcome, Fail>
 where
     R: Files<File = File> + Net + AllocGlobal,
     R::File: AsRawFd,
 {
-    let mut well = Centre::open(rt, LOOPBACK_CENTRE)?;
-    feed(rt, &mut well, 1)?;
-    feed(rt, &mut well, 2)?;
-    let silent = Centre::open(rt, LOOPBACK_CENTRE)?;
-    let first = silent.ports().0;
-    let second = well.ports().0;
-    let line = format!(in rt.alloc();
-        "seedlinkd read 127.0.0.1:{first},127.0.0.1:{second} GE_APE --fetch --timeout 30"
-    )?;
-    let actor = RefCell::new(SilentFirst { silent, well });
-    job_of(rt, &actor, line.as_str())
+    let configs = [LOOPBACK_CENTRE, LOOPBACK_CENTRE];
+    at_centres(rt, &configs, |rt: &R, servers: &mut Vec<Centre>| {
+        read_past_the_first(rt, servers.as_mut_slice())
+    })
 }
 
 #[test]

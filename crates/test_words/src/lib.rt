@@ -18,8 +18,6 @@ mod pairs;
 #[cfg(test)]
 mod standing;
 #[cfg(test)]
-mod told;
-#[cfg(test)]
 mod visits;
 #[cfg(test)]
 mod words;

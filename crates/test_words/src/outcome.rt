@@ -1,7 +1,6 @@
 //! What comes of a command line, and what else several modules of tests share.
 use jobs::obey;
-use loopback::{Actor, Stage, any_port};
-use ports_socket::MioPorts;
+use loopback::{Actor, Stage};
 use std::alloc::Global;
 use std::cell::RefCell;
 use std::fs::{self, File};
@@ -28,11 +27,6 @@ impl Outcome {
     /// Whether the job ended well, and wrote these bytes to the standard output.
     pub fn has_written(&self, output: &[u8]) -> bool {
         self.is_success() && self.output.as_slice() == output
-    }
-
-    /// Whether the job failed before it wrote anything to the standard output.
-    pub fn has_failed_at_once(&self) -> bool {
-        !self.is_success() && self.output.is_empty()
     }
 }
 
@@ -71,12 +65,6 @@ where
 {
     let words = words_of(rt.alloc(), line)?;
     Ok(obeyed(rt, actor, words.as_slice()))
-}
-
-/// Two ports that the system chose, which are free again.
-pub fn free_ports<R: Net + AllocGlobal>(rt: &R) -> Result<(u16, u16), Fail> {
-    let ports = MioPorts::listen(rt, rt.alloc(), any_port(), any_port())?;
-    Ok(ports.bound())
 }
 
 /// Whether a file holds these bytes.

@@ -1,7 +1,7 @@
 //! Two clients of one address, at a server that takes so many of them.
-use crate::outcome::{free_ports, job_of};
+use crate::outcome::job_of;
 use crate::visits::{line_of, look, make_files};
-use loopback::{Actor, GREETING, Visitor};
+use loopback::{Actor, GREETING, Visitor, free_ports};
 use std::cell::RefCell;
 use std::fs::File;
 use std::net::{Ipv4Addr, Net};

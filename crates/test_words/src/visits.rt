@@ -1,7 +1,7 @@
 //! Visitors of a server that the words of a command line start: while it runs, they act whenever it opens a file, as
 //! its configuration after each turn.
-use crate::outcome::{free_ports, job_of};
-use loopback::{Actor, GREETING, Visitor, packet, record};
+use crate::outcome::job_of;
+use loopback::{Actor, GREETING, Visitor, free_ports, packet, record};
 use std::alloc::Global;
 use std::cell::RefCell;
 use std::fs::{self, File};
@@ -23,7 +23,7 @@ const SECOND: u32 = 18;
 const TURNS: u32 = 26;
 
 /// One station that is open to everybody.
-pub static OPEN: &str =
+pub const OPEN: &str =
     "title = \"Test Centre\"\nmax_connections = 9\n[[station]]\nnetwork = \"GE\"\ncode = \"APE\"\ndescription = \
     \"Island\"\ncapacity = 9\n";
 
@@ -31,7 +31,7 @@ pub static OPEN: &str =
 static NUMBERS: [&[u8; 8]; 2] = [b"SL000000", b"SL000001"];
 
 /// The same, open to 127.0.0.1 alone.
-pub static CLOSED: &str =
+pub const CLOSED: &str =
     "title = \"Test Centre\"\nmax_connections = 9\naccess = \"127.0.0.1\"\n[[station]]\nnetwork = \
     \"GE\"\ncode = \"APE\"\ndescription = \"Island\"\ncapacity = 9\n";
 
