@@ -24,14 +24,15 @@ impl<R: Files<File = File> + Net + AllocGlobal> Actor<R> for Closer {
     fn serve(&mut self, _rt: &R) {}
 }
 
-/// How often the configuration is read again, how the server ends then, and what it tells. Sixteen polls that fail end it;
-/// fifteen between two readings end nothing.
+/// How often the configuration is read again, how the server ends then, and what it tells. Sixteen polls that fail end
+/// it; fifteen between two readings end nothing.
 static ROWS: [(&str, bool, &str); 2] = [
     ("--reread 20", false, "seedlinkd: 40 Poll\n"),
     ("--reread 15", true, ""),
 ];
 
-/// Whether a server with one more option ends so and tells that, whose polls fail after one reading and before the next.
+/// Whether a server with one more option ends so and tells that, whose polls fail after one reading and before the
+/// next.
 fn ends_so(rt: &HostRuntime, more: &str, is_success: bool, told: &str) -> Result<bool, Fail> {
     let closer = RefCell::new(Closer);
     let line = format!(in rt.alloc();
