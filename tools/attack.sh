@@ -7,8 +7,11 @@
 # `rt must-fail`. As many crates are tried side by side as JOBS says, or else as there are processors, if each has 5 GiB of memory.
 # Each crate has a line when it ends, and its log has what `rt` said. The last line counts. The status is 0 if each edit was refused.
 #
-# The copy and the logs stay in the folder ATTACK_FOLDER, or else in one below ${TMPDIR:-/tmp}, named for the path of this
-# repository. So a run that was stopped goes on: a crate that was tried is tried again only if something changed that it stands on.
+# A crate whose edits were all refused has a line in attack/refused.txt, which this script writes: its name, the number of its edits, and
+# a sum of all that they stand on. It is tried again once something of that has changed, so a run that was stopped goes on, also on
+# another machine. To try all anew, remove the lines.
+#
+# The copy and the logs stay in the folder ATTACK_FOLDER, or else in one below ${TMPDIR:-/tmp}, named for the path of this repository.
 set -u
 top=$(cd "$(dirname "$(readlink -f "$0")")/.." && pwd -P)
 fail() {
@@ -28,8 +31,9 @@ logs=$room/logs
 mkdir -p "$copy" "$logs"
 
 cd "$top" || exit 2
-[ $# -gt 0 ] || set -- attack/*
-mapfile -t names < <(printf '%s\n' "${@#attack/}" | sort -u)
+[ $# -gt 0 ] || set -- attack/*/
+set -- "${@#attack/}"
+mapfile -t names < <(printf '%s\n' "${@%/}" | sort -u)
 for name in "${names[@]}"; do
     compgen -G "attack/$name/*.edit" >/dev/null || fail "there are no edits in attack/$name"
 done
@@ -69,8 +73,17 @@ sum_of() {
         cat "$copy/HANDLES"
         cut -d: -f1 <<<"$lines" | while read -r it; do grep -E " crates/$it/(src|specs|proofs)/" <<<"$files"; done
         grep " crates/$1/must-fail/" <<<"$files"
-    } | sha256sum
+    } | sha256sum | cut -d' ' -f1
 }
+
+# The crates whose edits were all refused: a name, how many edits it has, and the sum, a line each.
+record=$top/attack/refused.txt
+# Writes the line of a crate.
+note() {
+    { grep -sv "^$1 " "$record"; echo "$1 $2 ${sums[$1]}"; } | LC_ALL=C sort >"$record.new" && mv "$record.new" "$record"
+}
+# How many edits were refused of a crate that has a line, and nothing if something changed that they stand on.
+noted() { sed -n "s/^$1 \([0-9]*\) ${sums[$1]}\$/\1/p" "$record" 2>/dev/null; }
 
 # Counts what a crate's log has, adds it to the counts of all, and prints its line.
 declare -A count=([tried]=0 [refused]=0 [not_refused]=0 [bad]=0 [left]=0)
@@ -83,8 +96,8 @@ tell() {
     left=$((of - refused - not_refused - bad))
     count[refused]=$((count[refused] + refused)) count[not_refused]=$((count[not_refused] + not_refused))
     count[bad]=$((count[bad] + bad)) count[left]=$((count[left] + left)) count[tried]=$((count[tried] + of - left))
-    echo "$1: $(counts $((of - left)) "$refused" "$not_refused" "$bad" "$left")$2"
-    [ "$left" -ne 0 ] || echo "${sums[$1]}" >"$logs/$1.sum"
+    echo "$1: $(counts $((of - left)) "$refused" "$not_refused" "$bad" "$left")"
+    [ "$refused" -ne "$of" ] || note "$1" "$of"
 }
 counts() {
     echo "$1 tried, $2 refused, $3 not refused, $4 bad$([ "$5" -eq 0 ] || echo "; $5 not tried")"
@@ -101,7 +114,13 @@ declare -A sums
 left=()
 for name in "${names[@]}"; do
     sums[$name]=$(sum_of "$name")
-    if [ "$(cat "$logs/$name.sum" 2>/dev/null)" = "${sums[$name]}" ]; then tell "$name" ", by an earlier run"; else left+=("$name"); fi
+    of=$(noted "$name")
+    if [ -n "$of" ]; then
+        echo "$name: $(counts "$of" "$of" 0 0 0), by an earlier run"
+        count[refused]=$((count[refused] + of)) count[tried]=$((count[tried] + of))
+    else
+        left+=("$name")
+    fi
 done
 mapfile -t left < <(for name in "${left[@]}"; do echo "$(find "attack/$name" -name '*.edit' | wc -l) $name"; done |
     awk 'NR == FNR { if (!/^#/) seconds[$1] = $2; next } { print $1 * (15 + seconds[$2] / 10), $2 }' tools/proving_seconds.txt - | sort -rn | cut -d' ' -f2)
@@ -119,14 +138,13 @@ stop() {
 }
 trap stop HUP INT TERM
 begin() {
-    rm -f "$logs/$1.sum"
     (cd "$copy" && RT_JOBS=1 exec rt must-fail "$1") >"$logs/$1.log" 2>&1 &
     running[$!]=$1
 }
 await_one() {
     local ended
     wait -n -p ended "${!running[@]}"
-    tell "${running[$ended]}" ""
+    tell "${running[$ended]}"
     unset "running[$ended]"
 }
 if [ "${#left[@]}" -gt 0 ]; then
@@ -141,6 +159,6 @@ for name in "${left[@]}"; do
 done
 while [ "${#running[@]}" -gt 0 ]; do await_one; done
 
-for name in "${names[@]}"; do grep -hE ": (NOT REFUSED|BAD EDIT|NOT TRIED): " "$logs/$name.log"; done
+for name in "${left[@]}"; do grep -hE ": (NOT REFUSED|BAD EDIT|NOT TRIED): " "$logs/$name.log"; done
 counts "${count[tried]}" "${count[refused]}" "${count[not_refused]}" "${count[bad]}" "${count[left]}"
 [ $((count[not_refused] + count[bad] + count[left])) -eq 0 ]
