@@ -3,7 +3,6 @@ mod changes;
 mod endpoints;
 mod explained;
 mod explained_jobs;
-mod read_words;
 mod refused_words;
 mod replays;
 mod scripts;

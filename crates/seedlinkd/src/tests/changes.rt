@@ -67,24 +67,6 @@ static LISTS: [(&str, &str, &str); 14] = [
     ),
 ];
 
-/// What changes from one text to another.
-fn changes(alloc: Global, old_text: &[u8], new_text: &[u8]) -> Result<Vec<u8>, Fail> {
-    let old = Config::read(alloc, old_text)?;
-    let new = Config::read(alloc, new_text)?;
-    Ok(changes_of(alloc, &old, old_text, &new, new_text)?)
-}
-
-#[test]
-fn addresses_that_gain_or_lose_are_named(rt: HostRuntime) -> Result<(), Fail> {
-    for (before, after, lines) in &LISTS {
-        let old = with_lists(rt.alloc(), "", before)?;
-        let new = with_lists(rt.alloc(), "", after)?;
-        let found = changes(rt.alloc(), old.as_bytes(), new.as_bytes())?;
-        assert!(rt; found.as_slice() == lines.as_bytes(), "{before} to {after}");
-    }
-    Ok(())
-}
-
 /// A configuration, and another one, of which a station has gone and one is new.
 static BEFORE: &[u8] = br#"title = "T"
 access = "192.0.2.7"
@@ -115,15 +97,34 @@ capacity = 3
 access = "0.0.0.0/0"
 "#;
 
+/// What is said of them.
+static GONE_AND_NEW: &str =
+    "XX_OLD is gone\nXX_OLD loses 192.0.2.7\nGE_APE gains 192.0.2.8\nGE_APE loses 192.0.2.7\n\
+    XX_NEW is new\nXX_NEW opens to everybody\na running server refuses this: 34 Different\n";
+
+/// Whether that is said of what changes from one configuration to another.
+fn says(alloc: Global, old_text: &[u8], new_text: &[u8], lines: &str) -> Result<bool, Fail> {
+    let old = Config::read(alloc, old_text)?;
+    let new = Config::read(alloc, new_text)?;
+    let found = changes_of(alloc, &old, old_text, &new, new_text)?;
+    Ok(found.as_slice() == lines.as_bytes())
+}
+
+/// The same if only the list of a station changes.
+fn says_of_list(alloc: Global, before: &str, after: &str, lines: &str) -> Result<bool, Fail> {
+    let old = with_lists(alloc, "", before)?;
+    let new = with_lists(alloc, "", after)?;
+    says(alloc, old.as_bytes(), new.as_bytes(), lines)
+}
+
 #[test]
-fn stations_that_come_and_go_are_named(rt: HostRuntime) -> Result<(), Fail> {
-    let lines = changes(rt.alloc(), BEFORE, AFTER)?;
-    assert!(rt;
-        lines.as_slice()
-            == b"XX_OLD is gone\nXX_OLD loses 192.0.2.7\nGE_APE gains 192.0.2.8\n\
-            GE_APE loses 192.0.2.7\nXX_NEW is new\nXX_NEW opens to everybody\n\
-            a running server refuses this: 34 Different\n"
-                .as_slice()
-    );
+fn what_changes_is_named(rt: HostRuntime) -> Result<(), Fail> {
+    for (row, (before, after, lines)) in LISTS.iter().enumerate() {
+        assert!(rt;
+            says_of_list(rt.alloc(), before, after, lines)?,
+            "in row {row}"
+        );
+    }
+    assert!(rt; says(rt.alloc(), BEFORE, AFTER, GONE_AND_NEW)?);
     Ok(())
 }

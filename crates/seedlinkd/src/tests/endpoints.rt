@@ -1,8 +1,11 @@
 //! Addresses with a port.
 use jobs::Endpoint;
 
-/// Texts, and the numbers of the address with the port that they spell.
-static ENDPOINTS: [(&[u8], Option<([u8; 4], u16)>); 11] = [
+/// The numbers of an address, and its port.
+type Numbers = ([u8; 4], u16);
+
+/// Texts, and the address with the port that they spell.
+static ENDPOINTS: [(&[u8], Option<Numbers>); 11] = [
     (b"127.0.0.1:18000", Some(([127, 0, 0, 1], 18_000))),
     (b"010.0.0.7:0", Some(([10, 0, 0, 7], 0))),
     (b"0.0.0.0:65535", Some(([0, 0, 0, 0], 65_535))),
@@ -16,10 +19,14 @@ static ENDPOINTS: [(&[u8], Option<([u8; 4], u16)>); 11] = [
     (b"10.0.0.7:80:80", None),
 ];
 
+fn numbers_of(text: &[u8]) -> Option<Numbers> {
+    let endpoint = Endpoint::parse(text)?;
+    Some((endpoint.address.octets(), endpoint.port))
+}
+
 #[test]
 fn endpoints_are_read(rt: HostRuntime) {
-    for (text, wanted) in &ENDPOINTS {
-        let read = Endpoint::parse(text).map(|endpoint| (endpoint.address.octets(), endpoint.port));
-        assert!(rt; read == *wanted, "{text:?}");
+    for (row, &(text, wanted)) in ENDPOINTS.iter().enumerate() {
+        assert!(rt; numbers_of(text) == wanted, "in row {row}");
     }
 }

@@ -1,5 +1,6 @@
 //! The lines that explain a fault of a file: a configuration, a script, or records.
 use super::replays::config;
+use super::scripts::record_with;
 use catalog::Config;
 use config_explained::{finding_of, first_difference};
 use jobs::ReplayStyle::Hexadecimal;
@@ -13,102 +14,227 @@ use std::test::Fail;
 const ISLAND: &str = "title = \"T\"\n[[station]]\nnetwork = \"GE\"\ncode = \"APE\"\n\
     description = \"\"\ncapacity = 3\n";
 
-/// What stands behind that in a configuration, and the lines that explain why it is refused, after the file's.
-static STATIONS: [(&str, &str); 12] = [
+/// A file in which something is wrong.
+enum Wrong {
+    /// A configuration.
+    Whole(&'static [u8]),
+    /// The configuration of the island with this after it.
+    After(&'static str),
+    /// A configuration that is to replace the one of the island, with this after its title.
+    Other(&'static str),
+    /// A script.
+    Script(&'static [u8]),
+    /// The first so many bytes of two records, `GE` and spaces.
+    Records(usize),
+}
+
+/// Lines that explain a fault, after what the lines of all such files begin with.
+enum Lines {
+    Are(&'static str),
+    /// These are the first and the last of them.
+    Around(&'static str, &'static str),
+}
+
+use Lines::{Are, Around};
+use Wrong::{After, Other, Records, Script, Whole};
+
+/// Files in which something is wrong, and the lines that explain it.
+static FAULTS: [(Wrong, Lines); 33] = [
     (
-        "[[station]]\nnetwork = \"XX\"\ncode = \"APE\"\ndescription = \"\"\ncapacity = 0\n",
-        "  station: 2 XX APE\n  key: capacity\n  allowed: a whole number from 1 to 65536\n",
+        After("[[station]]\nnetwork = \"XX\"\ncode = \"APE\"\ndescription = \"\"\ncapacity = 0\n"),
+        Are("  station: 2 XX APE\n  key: capacity\n  allowed: a whole number from 1 to 65536\n"),
     ),
     (
-        "[[station]]\nnetwork = \"XX\"\ncode = \"APE\"\ndescription = \"\"\ncapacity = \"4\"\n",
-        "  station: 2 XX APE\n  key: capacity\n  found: a text\n  wanted: a whole number\n  \
+        After(
+            "[[station]]\nnetwork = \"XX\"\ncode = \"APE\"\ndescription = \"\"\ncapacity = \"4\"\n",
+        ),
+        Are(
+            "  station: 2 XX APE\n  key: capacity\n  found: a text\n  wanted: a whole number\n  \
             allowed: a whole number from 1 to 65536\n",
+        ),
     ),
     (
-        "[[station]]\nnetwork = \"ge\"\n",
-        "  station: 2\n  key: network\n  allowed: 1 to 2 of A to Z and 0 to 9\n",
+        After("[[station]]\nnetwork = \"ge\"\n"),
+        Are("  station: 2\n  key: network\n  allowed: 1 to 2 of A to Z and 0 to 9\n"),
     ),
     (
-        "[[station]]\ncode = \"APE\"\n",
-        "  station: 2\n  key: network\n  found: nothing\n  wanted: a text\n  \
+        After("[[station]]\ncode = \"APE\"\n"),
+        Are(
+            "  station: 2\n  key: network\n  found: nothing\n  wanted: a text\n  \
             allowed: 1 to 2 of A to Z and 0 to 9\n",
+        ),
     ),
     (
-        "[[station]]\nnetwork = \"XX\"\ncode = \"SIXSIX\"\n",
-        "  station: 2 XX\n  key: code\n  allowed: 1 to 5 of A to Z and 0 to 9\n",
+        After("[[station]]\nnetwork = \"XX\"\ncode = \"SIXSIX\"\n"),
+        Are("  station: 2 XX\n  key: code\n  allowed: 1 to 5 of A to Z and 0 to 9\n"),
     ),
     (
-        "[[station]]\nnetwork = \"XX\"\ncode = \"APE\"\n",
-        "  station: 2 XX APE\n  key: description\n  found: nothing\n  wanted: a text\n  \
+        After("[[station]]\nnetwork = \"XX\"\ncode = \"APE\"\n"),
+        Are(
+            "  station: 2 XX APE\n  key: description\n  found: nothing\n  wanted: a text\n  \
             allowed: at most 60 bytes of printable ASCII\n",
+        ),
     ),
     (
-        "first = \"0000000\"\n",
-        "  station: 1 GE APE\n  key: first\n  allowed: 1 to 6 hexadecimal digits\n",
+        After("first = \"0000000\"\n"),
+        Are("  station: 1 GE APE\n  key: first\n  allowed: 1 to 6 hexadecimal digits\n"),
     ),
     (
-        "access = \"10.0.0.7,, 10.0.0/8 10.0.0\"\n",
-        "  station: 1 GE APE\n  key: access\n  entry: 10.0.0/8\n  \
+        After("access = \"10.0.0.7,, 10.0.0/8 10.0.0\"\n"),
+        Are(
+            "  station: 1 GE APE\n  key: access\n  entry: 10.0.0/8\n  \
             allowed: addresses and masks, separated by spaces and commas, as 10.0.0.7, 10.0.0.0/8\n",
+        ),
     ),
     (
-        "access = [\"10.0.0.7\"]\n",
-        "  station: 1 GE APE\n  key: access\n  found: an array\n  wanted: a text\n  \
+        After("access = [\"10.0.0.7\"]\n"),
+        Are(
+            "  station: 1 GE APE\n  key: access\n  found: an array\n  wanted: a text\n  \
             allowed: addresses and masks, separated by spaces and commas, as 10.0.0.7, 10.0.0.0/8\n",
+        ),
     ),
     (
-        "[[station]]\nnetwork = \"GE\"\ncode = \"APE\"\ndescription = \"\"\ncapacity = 3\n",
-        "  station: 2 GE APE\n  key: network and code\n  allowed: not those of an earlier station\n",
+        After("[[station]]\nnetwork = \"GE\"\ncode = \"APE\"\ndescription = \"\"\ncapacity = 3\n"),
+        Are(
+            "  station: 2 GE APE\n  key: network and code\n  allowed: not those of an earlier station\n",
+        ),
     ),
     // The second station is the first at fault; the third is not looked at.
     (
-        "[[station]]\nnetwork = \"XX\"\ncode = \"B\"\ndescription = \"\"\ncapacity = 65537\n\
+        After(
+            "[[station]]\nnetwork = \"XX\"\ncode = \"B\"\ndescription = \"\"\ncapacity = 65537\n\
             [[station]]\nnetwork = 4\n",
-        "  station: 2 XX B\n  key: capacity\n  allowed: a whole number from 1 to 65536\n",
+        ),
+        Are("  station: 2 XX B\n  key: capacity\n  allowed: a whole number from 1 to 65536\n"),
     ),
     (
-        "[[station]]\nnetwork = \"XX\"\ncode = \"B\"\ndescription = \"\"\ncapacity = 1\n\
+        After(
+            "[[station]]\nnetwork = \"XX\"\ncode = \"B\"\ndescription = \"\"\ncapacity = 1\n\
             [[station]]\nnetwork = 4\n",
-        "  station: 3\n  key: network\n  found: a whole number\n  wanted: a text\n  \
+        ),
+        Are(
+            "  station: 3\n  key: network\n  found: a whole number\n  wanted: a text\n  \
             allowed: 1 to 2 of A to Z and 0 to 9\n",
+        ),
+    ),
+    (
+        Whole(b""),
+        Are(
+            "  key: title\n  found: nothing\n  wanted: a text\n  allowed: 1 to 100 bytes of printable ASCII\n",
+        ),
+    ),
+    (
+        Whole(b"title = \"\""),
+        Are("  key: title\n  allowed: 1 to 100 bytes of printable ASCII\n"),
+    ),
+    (
+        Whole(b"title = \"T\"\naccess = \"10.0.0.0/33\""),
+        Are(
+            "  key: access\n  entry: 10.0.0.0/33\n  \
+            allowed: addresses and masks, separated by spaces and commas, as 10.0.0.7, 10.0.0.0/8\n",
+        ),
+    ),
+    (
+        Whole(b"title = \"T\"\nmax_connections = 10001"),
+        Are("  key: max_connections\n  allowed: a whole number from 1 to 10000\n"),
+    ),
+    (
+        Whole(b"title = \"T\""),
+        Are(
+            "  key: station\n  found: nothing\n  wanted: an array of tables, each under [[station]]\n  \
+            allowed: 1 to 1024 tables\n",
+        ),
+    ),
+    (
+        Whole(b"title = \"T\"\nstation = [4]"),
+        Are(
+            "  key: station\n  found: an array\n  wanted: an array of tables, each under [[station]]\n  \
+            allowed: 1 to 1024 tables\n",
+        ),
+    ),
+    (
+        Whole(b"title = \"T\"\n[station]\nnetwork = \"GE\""),
+        Are(
+            "  key: station\n  found: a table\n  wanted: an array of tables, each under [[station]]\n  \
+            allowed: 1 to 1024 tables\n",
+        ),
+    ),
+    // No TOML, and no UTF-8.
+    (
+        After("title = \ncode = 3\n"),
+        Around(
+            "  line: 7\n  column: 9\n  reason: ",
+            "\n  text: title = \n  allowed: TOML in UTF-8\n",
+        ),
+    ),
+    (
+        Whole(b"title = \"\xC3\xA9\xFF\"\n"),
+        Are(
+            "  line: 1\n  column: 11\n  offset: 11\n  \
+            found: bytes that are not UTF-8\n  allowed: TOML in UTF-8\n",
+        ),
+    ),
+    // The same configuration, which differs in nothing.
+    (
+        Other("[[station]]\nnetwork = \"GE\"\ncode = \"APE\"\ndescription = \"\"\ncapacity = 3\n"),
+        Are(""),
+    ),
+    (
+        Other(
+            "[[station]]\nnetwork = \"GE\"\ncode = \"APE\"\ndescription = \"\"\ncapacity = 4\nfirst = \"A\"\n",
+        ),
+        Are("  station: 1 GE APE\n  key: capacity\n  in force: 3\n  in the file: 4\n"),
+    ),
+    (
+        Other(
+            "[[station]]\nnetwork = \"GE\"\ncode = \"APE\"\ndescription = \"\"\ncapacity = 3\nfirst = \"a\"\n",
+        ),
+        Are("  station: 1 GE APE\n  key: first\n  in force: 000000\n  in the file: 00000A\n"),
+    ),
+    (
+        Other(
+            "max_connections = 7\n[[station]]\nnetwork = \"XX\"\ncode = \"APE\"\ndescription = \"\"\ncapacity = 3\n",
+        ),
+        Are("  key: max_connections\n  in force: 100\n  in the file: 7\n"),
+    ),
+    (
+        Other(
+            "[[station]]\nnetwork = \"GE\"\ncode = \"APE\"\ndescription = \"\"\ncapacity = 3\n\
+            [[station]]\nnetwork = \"XX\"\ncode = \"APE\"\ndescription = \"\"\ncapacity = 3\n",
+        ),
+        Are("  key: station\n  in force: 1\n  in the file: 2\n"),
+    ),
+    (Script(b"open\n"), Are("1\n")),
+    (
+        Script(b"# first\n\nopen 10.0.0.7\nopen\nopen\n"),
+        Are("4\n"),
+    ),
+    (Script(b"open 10.0.0.7\ntake 0 1\nclose"), Are("3\n")),
+    (Script(b"\n\n\n\n\n\n\n\n\n \n"), Are("10\n")),
+    (Records(1_024), Are("")),
+    (
+        Records(1_026),
+        Are(
+            "  cause: the file ends inside a record\n  file: day.mseed\n  record: 3\n  offset: 1024\n",
+        ),
+    ),
+    (
+        Records(2_047),
+        Are(
+            "  cause: the sequence number has a byte that is no digit, no space and not 0\n  \
+            file: day.mseed\n  record: 3\n  offset: 1024\n",
+        ),
     ),
 ];
 
-/// Configurations whose own keys are refused, and the lines after the file's.
-static SERVERS: [(&str, &str); 7] = [
-    (
-        "",
-        "  key: title\n  found: nothing\n  wanted: a text\n  allowed: 1 to 100 bytes of printable ASCII\n",
-    ),
-    (
-        "title = \"\"",
-        "  key: title\n  allowed: 1 to 100 bytes of printable ASCII\n",
-    ),
-    (
-        "title = \"T\"\naccess = \"10.0.0.0/33\"",
-        "  key: access\n  entry: 10.0.0.0/33\n  \
-            allowed: addresses and masks, separated by spaces and commas, as 10.0.0.7, 10.0.0.0/8\n",
-    ),
-    (
-        "title = \"T\"\nmax_connections = 10001",
-        "  key: max_connections\n  allowed: a whole number from 1 to 10000\n",
-    ),
-    (
-        "title = \"T\"",
-        "  key: station\n  found: nothing\n  wanted: an array of tables, each under [[station]]\n  \
-            allowed: 1 to 1024 tables\n",
-    ),
-    (
-        "title = \"T\"\nstation = [4]",
-        "  key: station\n  found: an array\n  wanted: an array of tables, each under [[station]]\n  \
-            allowed: 1 to 1024 tables\n",
-    ),
-    (
-        "title = \"T\"\n[station]\nnetwork = \"GE\"",
-        "  key: station\n  found: a table\n  wanted: an array of tables, each under [[station]]\n  \
-            allowed: 1 to 1024 tables\n",
-    ),
-];
+/// What the lines of all such files begin with.
+fn beginning_of(wrong: &Wrong) -> &'static str {
+    match wrong {
+        Whole(_) | After(_) | Other(_) => "  file: island.toml\n",
+        Script(_) => { "  cause: a line of the script is no event\n  file: views.script\n  line: " }
+        Records(_) => "",
+    }
+}
 
 /// The lines that explain why a configuration is refused, after the first.
 fn refusal(alloc: Global, text: &[u8]) -> Result<String, Fail> {
@@ -122,95 +248,16 @@ fn refusal(alloc: Global, text: &[u8]) -> Result<String, Fail> {
     }
 }
 
-#[test]
-fn a_text_that_is_not_toml(rt: HostRuntime) -> Result<(), Fail> {
-    let text = format!(in rt.alloc(); "{ISLAND}title = \ncode = 3\n")?;
-    let told = refusal(rt.alloc(), text.as_bytes())?;
-    assert!(rt;
-        told.as_str()
-            .starts_with("  file: island.toml\n  line: 7\n  column: 9\n  reason: "),
-        "{told}"
-    );
-    assert!(rt;
-        told.as_str()
-            .ends_with("\n  text: title = \n  allowed: TOML in UTF-8\n"),
-        "{told}"
-    );
-    Ok(())
+/// Those that say in what a configuration differs from that of the island first.
+fn difference(alloc: Global, text: &[u8]) -> Result<String, Fail> {
+    let in_force = Config::read(alloc, ISLAND.as_bytes())?;
+    let in_file = Config::read(alloc, text)?;
+    let difference = first_difference(alloc, &in_force, &in_file)?;
+    let incident = Incident::of_difference("island.toml", difference);
+    Ok(format!(in alloc; "{}", incident.site)?)
 }
 
-#[test]
-fn a_text_that_is_not_utf8(rt: HostRuntime) -> Result<(), Fail> {
-    let told = refusal(rt.alloc(), b"title = \"\xC3\xA9\xFF\"\n")?;
-    assert!(rt;
-        told.as_str()
-            == "  file: island.toml\n  line: 1\n  column: 11\n  offset: 11\n  \
-                found: bytes that are not UTF-8\n  allowed: TOML in UTF-8\n",
-        "{told}"
-    );
-    Ok(())
-}
-
-/// What stands in another configuration after its title, in place of ISLAND's station, and the lines that say in what
-/// it differs first, after the file's.
-static OTHERS: [(&str, &str); 4] = [
-    (
-        "[[station]]\nnetwork = \"GE\"\ncode = \"APE\"\ndescription = \"\"\ncapacity = 4\nfirst = \"A\"\n",
-        "  station: 1 GE APE\n  key: capacity\n  in force: 3\n  in the file: 4\n",
-    ),
-    (
-        "[[station]]\nnetwork = \"GE\"\ncode = \"APE\"\ndescription = \"\"\ncapacity = 3\nfirst = \"a\"\n",
-        "  station: 1 GE APE\n  key: first\n  in force: 000000\n  in the file: 00000A\n",
-    ),
-    (
-        "max_connections = 7\n[[station]]\nnetwork = \"XX\"\ncode = \"APE\"\ndescription = \"\"\ncapacity = 3\n",
-        "  key: max_connections\n  in force: 100\n  in the file: 7\n",
-    ),
-    (
-        "[[station]]\nnetwork = \"GE\"\ncode = \"APE\"\ndescription = \"\"\ncapacity = 3\n\
-            [[station]]\nnetwork = \"XX\"\ncode = \"APE\"\ndescription = \"\"\ncapacity = 3\n",
-        "  key: station\n  in force: 1\n  in the file: 2\n",
-    ),
-];
-
-#[test]
-fn a_configuration_that_differs(rt: HostRuntime) -> Result<(), Fail> {
-    let in_force = Config::read(rt.alloc(), ISLAND.as_bytes())?;
-    assert!(rt; first_difference(rt.alloc(), &in_force, &in_force)?.is_none());
-    for (behind, lines) in &OTHERS {
-        let text = format!(in rt.alloc(); "title = \"T\"\n{behind}")?;
-        let in_file = Config::read(rt.alloc(), text.as_bytes())?;
-        let difference = first_difference(rt.alloc(), &in_force, &in_file)?;
-        let incident = Incident::of_difference("island.toml", difference);
-        let told = format!(in rt.alloc(); "{}", incident.site)?;
-        let wanted = format!(in rt.alloc(); "  file: island.toml\n{lines}")?;
-        assert!(rt; told == wanted, "at {behind}: {told}");
-    }
-    Ok(())
-}
-
-#[test]
-fn a_station_that_is_refused(rt: HostRuntime) -> Result<(), Fail> {
-    for (behind, lines) in &STATIONS {
-        let text = format!(in rt.alloc(); "{ISLAND}{behind}")?;
-        let wanted = format!(in rt.alloc(); "  file: island.toml\n{lines}")?;
-        let told = refusal(rt.alloc(), text.as_bytes())?;
-        assert!(rt; told == wanted, "at {behind}: {told}");
-    }
-    Ok(())
-}
-
-#[test]
-fn a_key_of_the_server_that_is_refused(rt: HostRuntime) -> Result<(), Fail> {
-    for (text, lines) in &SERVERS {
-        let wanted = format!(in rt.alloc(); "  file: island.toml\n{lines}")?;
-        let told = refusal(rt.alloc(), text.as_bytes())?;
-        assert!(rt; told == wanted, "at {text}: {told}");
-    }
-    Ok(())
-}
-
-/// The lines that explain why a script is not replayed.
+/// Those that explain why a script is not replayed.
 fn unplayed(alloc: Global, script: &[u8]) -> Result<String, Fail> {
     let mut source = MemorySource::new(script);
     let mut sink = MemorySink::new(alloc);
@@ -223,26 +270,20 @@ fn unplayed(alloc: Global, script: &[u8]) -> Result<String, Fail> {
     }
 }
 
-#[test]
-fn a_line_of_a_script(rt: HostRuntime) -> Result<(), Fail> {
-    let wanted = "  cause: a line of the script is no event\n  file: views.script\n  line: ";
-    let rows: [(&[u8], &str); 4] = [
-        (b"open\n", "1\n"),
-        (b"# first\n\nopen 10.0.0.7\nopen\nopen\n", "4\n"),
-        (b"open 10.0.0.7\ntake 0 1\nclose", "3\n"),
-        (b"\n\n\n\n\n\n\n\n\n \n", "10\n"),
-    ];
-    for (script, number) in rows {
-        let told = unplayed(rt.alloc(), script)?;
-        let wanted = format!(in rt.alloc(); "{wanted}{number}")?;
-        assert!(rt; told == wanted, "{told}");
-    }
-    Ok(())
+/// Two records, `GE` and spaces.
+fn two_and_more() -> [u8; 2_047] {
+    let mut bytes = [b' '; 2_047];
+    bytes[1_024] = b'G';
+    bytes[1_025] = b'E';
+    bytes[..512].copy_from_slice(&record_with(&[]));
+    bytes[512..1_024].copy_from_slice(&record_with(&[]));
+    bytes
 }
 
-/// The lines that explain what is wrong with a file of bytes of one kind.
-fn unchecked(alloc: Global, bytes: &[u8]) -> Result<String, Fail> {
-    let mut source = MemorySource::new(bytes);
+/// Those that explain what is wrong with the first so many bytes of them.
+fn unchecked(alloc: Global, count: usize) -> Result<String, Fail> {
+    let bytes = two_and_more();
+    let mut source = MemorySource::new(&bytes[..count.min(2_047)]);
     let mut sink = MemorySink::new(alloc);
     match check_records(
         alloc,
@@ -259,25 +300,44 @@ fn unchecked(alloc: Global, bytes: &[u8]) -> Result<String, Fail> {
     }
 }
 
+/// The lines that explain what is wrong with a file.
+fn explained(alloc: Global, wrong: &Wrong) -> Result<String, Fail> {
+    match wrong {
+        Whole(text) => refusal(alloc, text),
+        After(text) => {
+            let text = format!(in alloc; "{ISLAND}{text}")?;
+            refusal(alloc, text.as_bytes())
+        }
+        Other(text) => {
+            let text = format!(in alloc; "title = \"T\"\n{text}")?;
+            difference(alloc, text.as_bytes())
+        }
+        Script(script) => unplayed(alloc, script),
+        Records(count) => unchecked(alloc, *count),
+    }
+}
+
+/// Whether a text is those lines.
+fn is_so(text: &str, lines: &Lines) -> bool {
+    match lines {
+        Are(wanted) => text == *wanted,
+        Around(first, last) => text.starts_with(*first) && text.ends_with(*last),
+    }
+}
+
+/// Whether these lines explain what is wrong with a file.
+fn is_explained(alloc: Global, wrong: &Wrong, lines: &Lines) -> Result<bool, Fail> {
+    let told = explained(alloc, wrong)?;
+    match told.as_str().strip_prefix(beginning_of(wrong)) {
+        Some(text) => Ok(is_so(text, lines)),
+        None => Ok(false),
+    }
+}
+
 #[test]
-fn a_record_of_a_file(rt: HostRuntime) -> Result<(), Fail> {
-    let good = super::scripts::record_with(&[]);
-    let mut bytes = Vec::new(rt.alloc());
-    bytes.extend_from_slice(&good)?;
-    bytes.extend_from_slice(&good)?;
-    assert!(rt; unchecked(rt.alloc(), bytes.as_slice())?.is_empty());
-    bytes.extend_from_slice(b"GE")?;
-    let told = unchecked(rt.alloc(), bytes.as_slice())?;
-    assert!(rt;
-        told.as_str()
-            == "  cause: the file ends inside a record\n  file: day.mseed\n  record: 3\n  \
-            offset: 1024\n",
-        "{told}"
-    );
-    bytes.extend_from_slice(&[b' '; 1_021])?;
-    let told = unchecked(rt.alloc(), bytes.as_slice())?;
-    let wanted = "  cause: the sequence number has a byte that is no digit, no space and not 0\n  \
-        file: day.mseed\n  record: 3\n  offset: 1024\n";
-    assert!(rt; told.as_str() == wanted, "{told}");
+fn faults_of_files_are_explained(rt: HostRuntime) -> Result<(), Fail> {
+    for (row, (wrong, lines)) in FAULTS.iter().enumerate() {
+        assert!(rt; is_explained(rt.alloc(), wrong, lines)?, "in row {row}");
+    }
     Ok(())
 }

@@ -1,229 +1,169 @@
 //! Words of the command line that ask for no job: help, and mistakes.
-use crate::tests::words::{request_of, strings};
+use super::words::words_of;
 use command_line::{WordsFault, read_words};
 use std::alloc::{AllocError, Global};
 use std::test::Fail;
 
-/// Whether words are refused, and whether that is help.
-fn refused(alloc: Global, words: &[&str]) -> Result<Option<bool>, AllocError> {
-    let words = strings(alloc, words)?;
+/// What the user is told.
+enum Told {
+    /// This, and then more.
+    Begins(&'static str),
+    /// This among more.
+    Has(&'static str),
+}
+
+use Told::{Begins, Has};
+
+/// What mistakes begin with.
+const MISTAKE: Told = Begins("error: ");
+
+/// Command lines that ask for no job, whether they ask for help or the version, and what the user is told.
+static REFUSED: [(&str, bool, Told); 38] = [
+    ("seedlinkd|--version", true, Begins("seedlinkd ")),
+    ("seedlinkd|-V", true, Begins("seedlinkd ")),
+    ("seedlinkd|--help", true, Begins("A SeedLink 3 server")),
+    ("seedlinkd|-h", true, Begins("A SeedLink 3 server")),
+    ("seedlinkd|help", true, Begins("A SeedLink 3 server")),
+    (
+        "seedlinkd|--help|serve",
+        true,
+        Begins("A SeedLink 3 server"),
+    ),
+    ("seedlinkd|replay|--help", true, Begins("Replays a script")),
+    (
+        "seedlinkd|--help|faults",
+        true,
+        Has(
+            "\n   1 Sequence        the sequence number has a byte that is no digit, no space and not 0\n   2 Quality",
+        ),
+    ),
+    (
+        "seedlinkd|--help|faults",
+        true,
+        Has("\n  25 OutOfMemory     out of memory\n  30 Gone"),
+    ),
+    (
+        "seedlinkd|-h|faults",
+        true,
+        Has("\n  25 OutOfMemory     out of memory\n  30 Gone"),
+    ),
+    ("", false, Begins("")),
+    ("seedlinkd", false, MISTAKE),
+    ("seedlinkd|-v", false, MISTAKE),
+    ("seedlinkd|-v|-v|check|f", false, MISTAKE),
+    ("seedlinkd|faults", false, MISTAKE),
+    ("seedlinkd|play|island.toml|hello.script", false, MISTAKE),
+    ("seedlinkd|check", false, MISTAKE),
+    ("seedlinkd|replay", false, MISTAKE),
+    ("seedlinkd|replay|island.toml", false, MISTAKE),
+    (
+        "seedlinkd|replay|island.toml|hello.script|more",
+        false,
+        MISTAKE,
+    ),
+    (
+        "seedlinkd|replay|--fast|island.toml|hello.script",
+        false,
+        MISTAKE,
+    ),
+    ("seedlinkd|replay|a|b|c", false, MISTAKE),
+    ("seedlinkd|serve|c.toml|--listen|a:1", false, MISTAKE),
+    (
+        "seedlinkd|serve|c.toml|--listen=a|--feed=b|--turns|0",
+        false,
+        MISTAKE,
+    ),
+    (
+        "seedlinkd|serve|c|--listen=a:1|--feed=b:2|--silent=60",
+        false,
+        MISTAKE,
+    ),
+    (
+        "seedlinkd|serve|c|--listen=a|--feed=b|--silent=60",
+        false,
+        Begins("error: --silent needs --status\n"),
+    ),
+    (
+        "seedlinkd|serve|c|--listen=a|--feed=b|--reread=5m",
+        false,
+        Begins("error: a period is N turns, as 600, or N seconds, as 60s"),
+    ),
+    (
+        "seedlinkd|view|c|10.0.0.7|--station=GE_APE",
+        false,
+        Begins("error: WHO can't be used with --station\n\nUsage: seedlinkd view "),
+    ),
+    (
+        "seedlinkd|feed|a:1|f|--strict|--skip",
+        false,
+        Begins("error: --strict can't be used with --skip\n\nUsage: seedlinkd feed "),
+    ),
+    (
+        "seedlinkd|read|a:1",
+        false,
+        Begins("error: a WANT or --wants is needed\n\nUsage: seedlinkd read "),
+    ),
+    ("seedlinkd|read|a:1|GE_WLF|--retry=0", false, MISTAKE),
+    (
+        "seedlinkd|read|a:1|GE_WLF|--archive=d|--output=f",
+        false,
+        Begins("error: --archive can't be used with --output\n"),
+    ),
+    (
+        "seedlinkd|read|a:1|GE_WLF|--end=2024,3,1",
+        false,
+        Begins("error: --end needs --begin\n"),
+    ),
+    (
+        "seedlinkd|read|a:1|GE_WLF|--begin=2024,2,29|--end=2024,3,1|--fetch",
+        false,
+        Begins("error: --end can't be used with --fetch\n"),
+    ),
+    (
+        "seedlinkd|read|a:1|GE_WLF|--fetch|--begin=2024,2,29|--end=2024,3,1",
+        false,
+        Begins("error: --end can't be used with --fetch\n"),
+    ),
+    (
+        "seedlinkd|read|a:1|GE_WLF|--begin=2024,2,29|--end=2024,3,1|--retry=5",
+        false,
+        Begins("error: --end can't be used with --retry\n"),
+    ),
+    (
+        "seedlinkd|read|a:1|GE_WLF|--retry=5|--begin=2024,2,29|--end=2024,3,1",
+        false,
+        Begins("error: --end can't be used with --retry\n"),
+    ),
+    (
+        "seedlinkd|read|a:1|GE_WLF|--begin=2024,2,29|--end=2024,3,1|--state=s",
+        false,
+        Begins("error: --end can't be used with --state\n"),
+    ),
+];
+
+/// Whether the user is told that.
+fn is_told(text: &str, told: &Told) -> bool {
+    match told {
+        Begins(beginning) => text.starts_with(*beginning),
+        Has(lines) => text.contains(*lines),
+    }
+}
+
+/// Whether a command line is refused, as help or not, and that is told.
+fn is_refused(alloc: Global, line: &str, for_help: bool, told: &Told) -> Result<bool, AllocError> {
+    let words = words_of(alloc, line)?;
     match read_words(alloc, words.as_slice()) {
         Err(WordsFault::Refused { text, is_help }) => {
-            let _ = text;
-            Ok(Some(is_help))
+            Ok(is_help == for_help && is_told(text.as_str(), told))
         }
-        _ => Ok(None),
+        _ => Ok(false),
     }
 }
 
 #[test]
-fn help_is_told(rt: HostRuntime) -> Result<(), Fail> {
-    let all: [&[&str]; 7] = [
-        &["seedlinkd", "--version"],
-        &["seedlinkd", "--help"],
-        &["seedlinkd", "-h"],
-        &["seedlinkd", "help"],
-        &["seedlinkd", "replay", "--help"],
-        &["seedlinkd", "--help", "faults"],
-        &["seedlinkd", "-h", "faults"],
-    ];
-    for words in all {
-        assert_eq!(rt; refused(rt.alloc(), words)?, Some(true), "{words:?}");
+fn words_that_ask_for_no_job_are_answered(rt: HostRuntime) -> Result<(), Fail> {
+    for (line, is_help, told) in &REFUSED {
+        assert!(rt; is_refused(rt.alloc(), line, *is_help, told)?, "{line}");
     }
-    Ok(())
-}
-
-#[test]
-fn other_words_are_refused(rt: HostRuntime) -> Result<(), Fail> {
-    let all: [&[&str]; 20] = [
-        &[],
-        &["seedlinkd", "faults"],
-        &[
-            "seedlinkd",
-            "serve",
-            "c",
-            "--listen=a:1",
-            "--feed=b:2",
-            "--silent=60",
-        ],
-        &["seedlinkd", "view", "c", "10.0.0.7", "--station=GE_APE"],
-        &["seedlinkd", "feed", "a:1", "f", "--strict", "--skip"],
-        &["seedlinkd", "read", "a:1", "GE_WLF", "--retry=0"],
-        &[
-            "seedlinkd",
-            "read",
-            "a:1",
-            "GE_WLF",
-            "--retry=5",
-            "--begin=2024,2,29",
-            "--end=2024,3,1",
-        ],
-        &["seedlinkd", "read", "a:1", "GE_WLF", "--end=2024,3,1"],
-        &[
-            "seedlinkd",
-            "read",
-            "a:1",
-            "GE_WLF",
-            "--fetch",
-            "--begin=2024,2,29",
-            "--end=2024,3,1",
-        ],
-        &["seedlinkd", "serve", "c.toml", "--listen", "a:1"],
-        &[
-            "seedlinkd",
-            "serve",
-            "c.toml",
-            "--listen=a",
-            "--feed=b",
-            "--turns",
-            "0",
-        ],
-        &["seedlinkd", "read", "a:1"],
-        &["seedlinkd", "check"],
-        &["seedlinkd", "replay", "a", "b", "c"],
-        &["seedlinkd"],
-        &["seedlinkd", "play", "island.toml", "hello.script"],
-        &["seedlinkd", "replay"],
-        &["seedlinkd", "replay", "island.toml"],
-        &["seedlinkd", "replay", "island.toml", "hello.script", "more"],
-        &[
-            "seedlinkd",
-            "replay",
-            "--fast",
-            "island.toml",
-            "hello.script",
-        ],
-    ];
-    for words in all {
-        assert_eq!(rt; refused(rt.alloc(), words)?, Some(false), "{words:?}");
-    }
-    Ok(())
-}
-
-/// Words of `read` and `feed` that don't go together, and what is said of them.
-static MISTAKES: [(&[&str], &str); 10] = [
-    (
-        &["read", "a:1"],
-        "error: a WANT or --wants is needed\n\nUsage: seedlinkd read ",
-    ),
-    (
-        &["read", "a:1", "GE_WLF", "--archive=d", "--output=f"],
-        "error: --archive can't be used with --output\n",
-    ),
-    (
-        &["read", "a:1", "GE_WLF", "--end=2024,3,1"],
-        "error: --end needs --begin\n",
-    ),
-    (
-        &[
-            "read",
-            "a:1",
-            "GE_WLF",
-            "--begin=2024,2,29",
-            "--end=2024,3,1",
-            "--fetch",
-        ],
-        "error: --end can't be used with --fetch\n",
-    ),
-    (
-        &[
-            "read",
-            "a:1",
-            "GE_WLF",
-            "--begin=2024,2,29",
-            "--end=2024,3,1",
-            "--retry=5",
-        ],
-        "error: --end can't be used with --retry\n",
-    ),
-    (
-        &[
-            "read",
-            "a:1",
-            "GE_WLF",
-            "--begin=2024,2,29",
-            "--end=2024,3,1",
-            "--state=s",
-        ],
-        "error: --end can't be used with --state\n",
-    ),
-    (
-        &["feed", "a:1", "f", "--strict", "--skip"],
-        "error: --strict can't be used with --skip\n\nUsage: seedlinkd feed ",
-    ),
-    (
-        &["view", "c", "10.0.0.7", "--station=GE_APE"],
-        "error: WHO can't be used with --station\n\nUsage: seedlinkd view ",
-    ),
-    (
-        &["serve", "c", "--listen=a", "--feed=b", "--reread=5m"],
-        "error: a period is N turns, as 600, or N seconds, as 60s",
-    ),
-    (
-        &["serve", "c", "--listen=a", "--feed=b", "--silent=60"],
-        "error: --silent needs --status\n",
-    ),
-];
-
-/// What the user is told of words behind the program's name that are refused.
-fn told(alloc: Global, words: &[&str]) -> Result<String, AllocError> {
-    let mut all = strings(alloc, &["seedlinkd"])?;
-    for word in words {
-        all.push(String::from_str(alloc, word)?)?;
-    }
-    match read_words(alloc, all.as_slice()) {
-        Err(WordsFault::Refused { text, .. }) => Ok(text),
-        _ => Ok(String::new(alloc)),
-    }
-}
-
-#[test]
-fn words_that_do_not_go_together_are_named(rt: HostRuntime) -> Result<(), Fail> {
-    for (words, mistake) in &MISTAKES {
-        let text = told(rt.alloc(), words)?;
-        assert!(rt; text.as_str().starts_with(*mistake), "{text}");
-    }
-    Ok(())
-}
-
-/// Lines of the table of faults, with the beginnings of those that follow.
-static FAULTS: [&str; 2] = [
-    "\n   1 Sequence        the sequence number has a byte that is no digit, no space and not 0\n   2 Quality",
-    "\n  25 OutOfMemory     out of memory\n  30 Gone",
-];
-
-#[test]
-fn all_faults_are_listed(rt: HostRuntime) -> Result<(), Fail> {
-    let text = told(rt.alloc(), &["--help", "faults"])?;
-    for lines in FAULTS {
-        assert!(rt; text.as_str().contains(lines), "{text}");
-    }
-    let other = told(rt.alloc(), &["--help", "serve"])?;
-    assert!(rt;
-        other.as_str().starts_with("A SeedLink 3 server"),
-        "{other}"
-    );
-    Ok(())
-}
-
-/// Whether words ask that faults are explained.
-fn is_verbose(alloc: Global, words: &[&str]) -> Result<bool, Fail> {
-    let words = strings(alloc, words)?;
-    Ok(request_of(alloc, &words)?.is_verbose)
-}
-
-#[test]
-fn the_flag_stands_before_the_subcommand_or_after_it(rt: HostRuntime) -> Result<(), Fail> {
-    let alloc = rt.alloc();
-    assert!(rt; is_verbose(alloc, &["seedlinkd", "-v", "check", "f"])?);
-    assert!(rt; is_verbose(alloc, &["seedlinkd", "--verbose", "check", "f"])?);
-    assert!(rt; is_verbose(alloc, &["seedlinkd", "check", "-v", "f"])?);
-    assert!(rt; is_verbose(alloc, &["seedlinkd", "check", "f", "--verbose"])?);
-    assert!(rt; is_verbose(alloc, &["seedlinkd", "-v", "check", "f", "-v"])?);
-    assert!(rt; !is_verbose(alloc, &["seedlinkd", "check", "f"])?);
-    assert!(rt; !is_verbose(alloc, &["seedlinkd", "check", "--", "-v"])?);
-    assert!(rt; refused(alloc, &["seedlinkd", "-v", "-v", "check", "f"])? == Some(false));
-    assert!(rt; refused(alloc, &["seedlinkd", "-v"])? == Some(false));
-    assert!(rt; refused(alloc, &["seedlinkd", "-V"])? == Some(true));
     Ok(())
 }
