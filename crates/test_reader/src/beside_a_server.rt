@@ -1,14 +1,14 @@
 //! The reader beside a server, joined over memory: what the one asks the other is sent, in pieces of any length.
 ghost use Rattle.std.specs.Prelude.{◌<◌};
 
+use crate::pieces::{HELD, record_of, wants_of};
 use catalog::Config;
-use server_core::{Event, run};
+use server_core::{Client, Offer, Server};
 use sl_packet::Seq;
-use slreader::{Plan, ReaderCore, ReaderFault, Want, WantedAction, What};
+use slreader::{Plan, ReaderCore, ReaderFault, What};
 use std::alloc::Global;
 use std::net::Ipv4Addr;
 use std::test::Fail;
-use test_centre::{RecordOf, made};
 
 /// Two stations, of which one holds two records.
 const TWO_STATIONS: &[u8] = br#"title = "Test Centre"
@@ -27,39 +27,21 @@ capacity = 2
 first = "FFFFFE"
 "#;
 
-/// A record of GE WLF that starts at a second.
-pub fn record(second: u8) -> Result<[u8; 512], Fail> {
-    Ok(made(&RecordOf {
-        second,
-        ..RecordOf::station(b"GE", b"WLF")
-    })?)
-}
-
-/// A want of GE and a station, by FETCH.
-fn want<'a>(alloc: Global, station: &'a [u8], patterns: &[&'a [u8]]) -> Result<Want<'a>, Fail> {
-    Ok(Want {
-        network: b"GE",
-        station,
-        patterns: patterns.to_vec(alloc)?,
-        action: WantedAction::Fetch {
-            number: None,
-            begin: None,
-        },
-    })
-}
-
+/// Two wants, of which a server refuses the second.
 pub fn plan(alloc: Global) -> Result<Plan<'static>, Fail> {
-    let mut wants = Vec::new(alloc);
-    wants.push(want(alloc, b"WLF", &[b"BH?", b"!E"])?)?;
-    wants.push(want(alloc, b"NONE", &[])?)?;
+    let wants = wants_of(alloc, &[b"GE_WLF:BH?,!E", b"GE_NONE"], HELD)?;
     Ok(Plan::Multi(wants))
 }
 
+/// What is asked by that plan.
+pub const ASKED: &[u8] =
+    b"HELLO\rSTATION WLF GE\rSELECT BH?\rSELECT !E\rFETCH\rSTATION NONE GE\rEND\r";
+
 /// What came of a dialogue: all that was asked, and a line for each thing that was given.
 #[derive(Drop)]
-struct Log {
-    asked: Vec<u8>,
-    given: Vec<u8>,
+pub struct Log {
+    pub asked: Vec<u8>,
+    pub given: Vec<u8>,
     is_over: bool,
 }
 
@@ -106,9 +88,9 @@ fn hear_all(core: &mut ReaderCore, bytes: &[u8], most: usize, log: &mut Log) -> 
 
 /// Sends the server what the reader asks, so many bytes at once.
 fn ask(
-    alloc: Global,
+    server: &mut Server,
+    client: &Client,
     core: &mut ReaderCore,
-    events: &mut Vec<Event>,
     most: usize,
     log: &mut Log,
 ) -> Result<(), Fail>
@@ -117,130 +99,133 @@ fn ask(
     let outgoing = core.outgoing();
     log.asked.extend_from_slice(outgoing)?;
     for piece in outgoing.chunks(most) {
-        events.push(Event::Bytes(0, piece.to_vec(alloc)?))?;
+        server.receive(client, piece)?;
     }
     let count = outgoing.len();
     core.sent(count);
     Ok(())
 }
 
-/// A client and three records of GE WLF.
-fn arrivals(alloc: Global) -> Result<Vec<Event>, Fail> {
-    let mut events = Vec::new(alloc);
-    events.push(Event::Open(Ipv4Addr::new(172, 16, 0, 9)))?;
-    events.push(Event::Arrive(record(1)?))?;
-    events.push(Event::Arrive(record(2)?))?;
-    events.push(Event::Arrive(record(3)?))?;
-    Ok(events)
-}
-
-/// What the server hands last, after the events.
-fn handed_last(alloc: Global, events: &[Event]) -> Result<Vec<u8>, Fail> {
-    let takes = run(alloc, Config::read(alloc, TWO_STATIONS)?, events)?;
-    match takes.as_slice() {
-        [.., last] => Ok(last.bytes.as_slice().to_vec(alloc)?),
-        [] => Ok(Vec::new(alloc)),
-    }
-}
-
-/// The dialogue of a reader and a server, with so many bytes at once.
-fn joined(alloc: Global, core: &mut ReaderCore, most: usize) -> Result<Log, Fail>
+/// Gives the reader what waits for it, so many bytes at once.
+fn answer(
+    server: &mut Server,
+    client: &Client,
+    core: &mut ReaderCore,
+    most: usize,
+    log: &mut Log,
+) -> Result<(), Fail>
     requires { 0 < most }
 {
+    if server.offer(client)? != Offer::Bytes {
+        return Ok(());
+    }
+    let waiting = server.waiting(client)?;
+    let count = waiting.len();
+    hear_all(core, waiting, most, log)?;
+    if count > 0 {
+        server.took(client, count)?;
+    }
+    Ok(())
+}
+
+/// The dialogue of a reader and a server up to the end of the transfer, with so many bytes at once.
+fn dialogue(
+    server: &mut Server,
+    client: &Client,
+    core: &mut ReaderCore,
+    most: usize,
+    log: &mut Log,
+) -> Result<(), Fail>
+    requires { 0 < most }
+{
+    for _ in 0..2_000 {
+        if !log.is_over {
+            ask(server, client, core, most, log)?;
+            answer(server, client, core, most, log)?;
+        }
+    }
+    Ok(())
+}
+
+/// What comes of a dialogue of a reader that connects to a server, with so many bytes at once.
+pub fn log_at(
+    alloc: Global,
+    server: &mut Server,
+    core: &mut ReaderCore,
+    most: usize,
+) -> Result<Log, Fail>
+    requires { 0 < most }
+{
+    let client = server.open(alloc, Ipv4Addr::new(172, 16, 0, 9))?;
     let mut log = Log {
         asked: Vec::new(alloc),
         given: Vec::new(alloc),
         is_over: false,
     };
-    let mut events = arrivals(alloc)?;
-    for _ in 0..20 {
-        ask(alloc, core, &mut events, most, &mut log)?;
-        events.push(Event::Take(0, 520))?;
-        let bytes = handed_last(alloc, &events)?;
-        hear_all(core, &bytes, most, &mut log)?;
-    }
+    dialogue(server, &client, core, most, &mut log)?;
     Ok(log)
 }
 
-const ASKED: &[u8] = b"HELLO\rSTATION WLF GE\rSELECT BH?\rSELECT !E\rFETCH\rSTATION NONE GE\rEND\r";
-
-/// Whether a reader's dialogue is the one of the records that the server holds.
-fn is_told_all(alloc: Global, core: &mut ReaderCore, most: usize) -> Result<bool, Fail>
+/// Whether a reader is given what a server holds of three records of GE WLF.
+fn is_given(
+    alloc: Global,
+    server: &mut Server,
+    core: &mut ReaderCore,
+    most: usize,
+) -> Result<bool, Fail>
     requires { 0 < most }
 {
-    let log = joined(alloc, core, most)?;
-    let is_told = log.given.as_slice() == b"hello\nrefused 1\nFFFFFF\n000000\nend\n".as_slice();
-    let goes_on = core.next_wanted(0) == Seq::of(1) && core.next_wanted(1) == None;
-    Ok(log.asked.as_slice() == ASKED && is_told && core.records() == 2 && goes_on)
+    for second in 1..4 {
+        server.arrive(&record_of(b"WLF", second)?)?;
+    }
+    let log = log_at(alloc, server, core, most)?;
+    Ok(
+        log.asked.as_slice() == ASKED
+            && log.given.as_slice() == b"hello\nrefused 1\nFFFFFF\n000000\nend\n".as_slice()
+            && core.records() == 2
+            && core.next_wanted(0) == Seq::of(1)
+            && core.next_wanted(1) == None,
+    )
 }
 
-/// The same of a new reader.
+/// The same of a new reader and a new server.
 fn is_right(alloc: Global, most: usize) -> Result<bool, Fail>
     requires { 0 < most }
 {
     let mut core = ReaderCore::new(alloc, plan(alloc)?)?;
-    is_told_all(alloc, &mut core, most)
+    let mut server = Server::new(alloc, Config::read(alloc, TWO_STATIONS)?)?;
+    is_given(alloc, &mut server, &mut core, most)
 }
+
+static SIZES: [usize; 3] = [1, 7, 520];
 
 #[test]
 fn a_reader_is_given_what_the_server_holds(rt: HostRuntime) -> Result<(), Fail> {
-    assert!(rt; is_right(rt.alloc(), 1)?);
-    assert!(rt; is_right(rt.alloc(), 7)?);
-    assert!(rt; is_right(rt.alloc(), 520)?);
-    Ok(())
-}
-
-/// Why a plan is not begun.
-fn fault_of(alloc: Global, plan: Plan<'_>) -> Option<ReaderFault> {
-    ReaderCore::new(alloc, plan).err()
-}
-
-/// A plan of so many wants, each with so many patterns.
-fn plan_of(alloc: Global, count: usize, patterns: &[&'static [u8]]) -> Result<Plan<'static>, Fail> {
-    let mut wants = Vec::new(alloc);
-    for _ in 0..count {
-        wants.push(want(alloc, b"WLF", patterns)?)?;
+    for &most in &SIZES {
+        assert!(rt;
+            0 < most && is_right(rt.alloc(), most)?,
+            "in pieces of {most}"
+        );
     }
-    Ok(Plan::Multi(wants))
-}
-
-#[test]
-fn plans_up_to_the_limits_are_begun(rt: HostRuntime) -> Result<(), Fail> {
-    let alloc = rt.alloc();
-    let full: [&'static [u8]; 64] = [b"BH?"; 64];
-    assert!(rt; fault_of(alloc, plan_of(alloc, 255, &full[..4])?) == None);
-    assert!(rt; fault_of(alloc, plan_of(alloc, 255, &full[..5])?) == Some(ReaderFault::Limit));
-    assert!(rt; fault_of(alloc, plan_of(alloc, 16, &full)?) == None);
-    assert!(rt; fault_of(alloc, plan_of(alloc, 17, &full)?) == Some(ReaderFault::Limit));
     Ok(())
 }
 
-#[test]
-fn plans_outside_the_limits_are_refused(rt: HostRuntime) -> Result<(), Fail> {
-    let alloc = rt.alloc();
-    let mut wants = Vec::new(alloc);
-    assert!(rt; fault_of(alloc, Plan::Multi(Vec::new(alloc))) == Some(ReaderFault::Limit));
-    for _ in 0..256 {
-        wants.push(want(alloc, b"WLF", &[])?)?;
+/// A byte that is none of a greeting, nothing, and a greeting's beginning.
+static AFTER_A_FAULT: [&[u8]; 3] = [b"X", b"", b"SeedLink v3"];
+
+/// Whether a reader that is given these answers each of them by the fault of the first.
+fn stays_at_a_fault(core: &mut ReaderCore) -> bool {
+    for piece in &AFTER_A_FAULT {
+        if core.incoming(piece, &mut [0; 520]).err() != Some(ReaderFault::BadReply) {
+            return false;
+        }
     }
-    assert!(rt; fault_of(alloc, Plan::Multi(wants)) == Some(ReaderFault::Limit));
-    assert!(rt; fault_of(alloc, Plan::Uni(want(alloc, b"wlf", &[])?)) == Some(ReaderFault::Limit));
-    assert!(rt; fault_of(alloc, Plan::Uni(want(alloc, b"WLF", &[])?)) == None);
-    Ok(())
-}
-
-/// What a new reader answers to a byte that is none of a greeting, to nothing, and to a greeting's beginning.
-fn answers_after_a_fault(core: &mut ReaderCore) -> [Option<ReaderFault>; 3] {
-    let mut packet = [0; 520];
-    let first = core.incoming(b"X", &mut packet).err();
-    let second = core.incoming(b"", &mut packet).err();
-    let third = core.incoming(b"SeedLink v3", &mut packet).err();
-    [first, second, third]
+    true
 }
 
 #[test]
 fn a_fault_stays(rt: HostRuntime) -> Result<(), Fail> {
     let mut core = ReaderCore::new(rt.alloc(), plan(rt.alloc())?)?;
-    assert!(rt; answers_after_a_fault(&mut core) == [Some(ReaderFault::BadReply); 3]);
+    assert!(rt; stays_at_a_fault(&mut core));
     Ok(())
 }

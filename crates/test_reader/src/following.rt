@@ -1,79 +1,214 @@
 //! Several servers, one after the other, and what a reader keeps meanwhile.
-use crate::packets::record;
+use crate::going_on::{Actions, NEGOTIATED, are_commands};
+use crate::pieces::{APE, FROM_NOW_ON, Piece, WLF, are_pieces, joined, wants_of};
+use Deed::{Keep, Last};
+use Piece::Bytes;
 use reader_run::{
-    Break, Called, Done, Gathered, KeepFault, Keeper, ListingFault, MemoryKeeper, MemoryServers,
-    NoServer, NothingKept, Nowhere, Times, follow,
+    Break, Called, Done, Gathered, ListingFault, MemoryKeeper, MemoryServers, NoServer, Nowhere,
+    Times, follow,
 };
+use reader_state::read_state;
 use sl_io::MemorySink;
-use sl_packet::{Seq, frame};
-use slreader::{LastPacket, Reached, Tally, Want, Window};
-use std::alloc::{AllocError, Global};
+use slreader::{LastPacket, Tally, Want};
+use std::alloc::Global;
 use std::test::Fail;
 
-/// What a server sends before the packets of two wants.
-const NEGOTIATED: &[u8] = b"SeedLink v3\r\n\r\nOK\r\nOK\r\nOK\r\nOK\r\n";
-
-/// The packets that a connection brings, by their numbers and stations, and what comes behind them.
-type Visit = (&'static [(u32, &'static [u8])], &'static [u8]);
-
-/// Three servers: the first two are cut off, one of them inside a packet, and the last comes to the end.
-static VISITS: [Visit; 3] = [
-    (&[(0xff_ffff, b"WLF"), (0, b"WLF")], b"SL0000"),
-    (&[(1, b"WLF"), (0xa, b"APE")], b""),
-    (&[(2, b"WLF")], b"END"),
+/// What three servers send: the first two are cut off, one of them inside a packet, and the last comes to the end.
+const FIRST: &[Piece] = &[
+    NEGOTIATED,
+    Bytes(b"SLFFFFFF"),
+    WLF,
+    Bytes(b"SL000000"),
+    WLF,
+    Bytes(b"SL0000"),
 ];
+
+const SECOND: &[Piece] = &[NEGOTIATED, Bytes(b"SL000001"), WLF, Bytes(b"SL00000A"), APE];
+
+const THIRD: &[Piece] = &[NEGOTIATED, Bytes(b"SL000002"), WLF, Bytes(b"END")];
 
 /// What they are asked.
-static ASKED: [&[u8]; 3] = [
-    b"HELLO\rSTATION WLF GE\rDATA\rSTATION APE GE\rDATA 00000A\rEND\r",
-    b"HELLO\rSTATION WLF GE\rDATA 000001\rSTATION APE GE\rDATA 00000A\rEND\r",
-    b"HELLO\rSTATION WLF GE\rDATA 000002\rSTATION APE GE\rDATA 00000B\rEND\r",
+const ASKED: &[Actions] = &[
+    [b"DATA", b"DATA 00000A"],
+    [b"DATA 000001", b"DATA 00000A"],
+    [b"DATA 000002", b"DATA 00000B"],
 ];
 
-/// What is asked after packets with the number 0 of both stations.
-const ASKED_AFTER: &[u8] =
-    b"HELLO\rSTATION WLF GE\rDATA 000001\rSTATION APE GE\rDATA 000001\rEND\r";
+/// What a keeper did.
+enum Deed {
+    /// It made so many records last.
+    Last(usize),
+    /// It kept a count of so many packets.
+    Keep(u64),
+}
 
-/// All that servers send.
-fn sent(alloc: Global) -> Result<Vec<Vec<u8>>, Fail> {
+/// How a reading ends.
+enum End {
+    /// At the end of a transfer.
+    Transfer,
+    /// No server was left.
+    NoServer,
+    /// At a fault of the keeper.
+    State,
+}
+
+/// Servers that are read one after the other.
+struct Row {
+    /// The state of a reader that went before.
+    state: &'static [u8],
+    /// What the servers send.
+    servers: &'static [&'static [Piece]],
+    /// Whether what is counted is to be kept after a read, and whether a call of the keeper fails, the last first.
+    due: &'static [bool],
+    failing: &'static [bool],
+    end: End,
+    asked: &'static [Actions],
+    records: &'static [Piece],
+    deeds: &'static [Deed],
+    /// How many packets are counted at the end.
+    counted: u64,
+}
+
+static ROWS: [Row; 6] = [
+    // What is counted is kept at the end of each connection, and before the reads in between at which that is due: the
+    // first time after the first packet.
+    Row {
+        state: b"",
+        servers: &[FIRST, SECOND, THIRD],
+        due: &[],
+        failing: &[],
+        end: End::Transfer,
+        asked: ASKED,
+        records: &[WLF, WLF, WLF, APE, WLF],
+        deeds: &[Last(2), Keep(2), Last(4), Keep(4), Last(5), Keep(5)],
+        counted: 5,
+    },
+    Row {
+        state: b"",
+        servers: &[FIRST, SECOND, THIRD],
+        due: &[true],
+        failing: &[],
+        end: End::Transfer,
+        asked: ASKED,
+        records: &[WLF, WLF, WLF, APE, WLF],
+        deeds: &[
+            Last(1),
+            Keep(1),
+            Last(2),
+            Keep(2),
+            Last(4),
+            Keep(4),
+            Last(5),
+            Keep(5),
+        ],
+        counted: 5,
+    },
+    Row {
+        state: b"",
+        servers: &[FIRST],
+        due: &[],
+        failing: &[],
+        end: End::NoServer,
+        asked: &[[b"DATA", b"DATA 00000A"]],
+        records: &[WLF, WLF],
+        deeds: &[Last(2), Keep(2)],
+        counted: 2,
+    },
+    // A want's own number counts only for a station that has no packet yet.
+    Row {
+        state: b"GE WLF 000000 -\nGE APE 000000 -\n",
+        servers: &[SECOND],
+        due: &[],
+        failing: &[],
+        end: End::NoServer,
+        asked: &[[b"DATA 000001", b"DATA 000001"]],
+        records: &[WLF, APE],
+        deeds: &[Last(2), Keep(2)],
+        counted: 2,
+    },
+    // Nothing is kept of what does not last. Then the records last, and what was counted is not kept.
+    Row {
+        state: b"",
+        servers: &[FIRST, SECOND, THIRD],
+        due: &[],
+        failing: &[true],
+        end: End::State,
+        asked: &[[b"DATA", b"DATA 00000A"]],
+        records: &[WLF, WLF],
+        deeds: &[],
+        counted: 0,
+    },
+    Row {
+        state: b"",
+        servers: &[FIRST, SECOND, THIRD],
+        due: &[],
+        failing: &[true, false],
+        end: End::State,
+        asked: &[[b"DATA", b"DATA 00000A"]],
+        records: &[WLF, WLF],
+        deeds: &[Last(2)],
+        counted: 0,
+    },
+];
+
+/// All that some servers send.
+fn sent_by(alloc: Global, servers: &[&'static [Piece]]) -> Result<Vec<Vec<u8>>, Fail> {
     let mut all = Vec::new(alloc);
-    for (packets, rest) in &VISITS {
-        let mut sent = NEGOTIATED.to_vec(alloc)?;
-        for (number, station) in *packets {
-            let number = Seq::of(*number).ok_or("a number")?;
-            sent.extend_from_slice(&frame(number, &record(station)?))?;
-        }
-        sent.extend_from_slice(rest)?;
-        all.push(sent)?;
+    for server in servers {
+        all.push(joined(alloc, server)?)?;
     }
     Ok(all)
 }
 
-/// The wants of a word each.
-fn wants<'a>(alloc: Global, words: [&'a [u8]; 2]) -> Result<Vec<Want<'a>>, Fail> {
-    let mut wants = Vec::new(alloc);
-    for word in words {
-        wants.push(Want::parse(alloc, word, Window::Following { begin: None })?)?;
+/// Whether a reading ended so.
+fn is_end(end: &Result<(), Break<NoServer>>, wanted: &End) -> bool {
+    matches!(
+        (end, wanted),
+        (Ok(()), End::Transfer)
+            | (Err(Break::Server(NoServer)), End::NoServer)
+            | (Err(Break::Listing(ListingFault::State)), End::State)
+    )
+}
+
+/// Whether that was asked over the connections that were made.
+fn are_asked(called: &[Called<'_>], wanted: &[Actions]) -> bool {
+    let mut left = wanted.iter();
+    for call in called {
+        let (Called::PassedOver(_, _, writer) | Called::Closed(_, writer)) = call else {
+            continue;
+        };
+        match left.next() {
+            Some(actions) if are_commands(writer.bytes(), *actions) => {}
+            _ => return false,
+        }
     }
-    Ok(wants)
+    left.next().is_none()
 }
 
-/// What comes of servers that are read one after the other.
-#[derive(Drop)]
-struct Followed {
-    end: Result<(), Break<NoServer>>,
-    records: Vec<u8>,
-    asked: Result<Vec<Vec<u8>>, AllocError>,
+/// Whether a keeper did that.
+fn are_deeds(done: &[Done], deeds: &[Deed]) -> bool {
+    for (done, deed) in done.iter().zip(deeds) {
+        let is_same = match (done, deed) {
+            (Done::Flushed(written), Last(records)) => written.len() / 512 == *records,
+            (Done::Kept(tally), Keep(packets)) => tally.records() == *packets,
+            _ => false,
+        };
+        if !is_same {
+            return false;
+        }
+    }
+    done.len() == deeds.len()
 }
 
-/// Reads servers one after the other, with a keeper.
-fn read_on<K: Keeper<Gathered<MemorySink>>>(
+/// Whether servers are read as a row says.
+fn are_read(
     alloc: Global,
-    tally: &mut Tally,
-    wants: &[Want<'_>],
+    row: &Row,
     sent: &[Vec<u8>],
-    keeper: &mut K,
-) -> Followed {
+    wants: &[Want<'static>],
+    tally: &mut Tally,
+    keeper: &mut MemoryKeeper,
+) -> bool {
     let mut servers = MemoryServers::new(alloc, sent);
     let mut records = Gathered::new(alloc, MemorySink::new(alloc));
     let end = follow(
@@ -86,172 +221,37 @@ fn read_on<K: Keeper<Gathered<MemorySink>>>(
         &mut records,
         keeper,
     );
-    Followed {
-        end,
-        records: records.into_sink().into_bytes(),
-        asked: asked_of(alloc, servers.called()),
-    }
+    is_end(&end, &row.end)
+        && are_asked(servers.called(), row.asked)
+        && are_pieces(records.sink().bytes(), row.records)
+        && are_deeds(keeper.done(), row.deeds)
+        && tally.records() == row.counted
 }
 
-/// What was asked over connections that are over. Only memory can lack.
-fn asked_of(alloc: Global, called: &[Called<'_>]) -> Result<Vec<Vec<u8>>, AllocError> {
-    let mut asked = Vec::new(alloc);
-    for call in called {
-        match call {
-            Called::PassedOver(_, _, writer) | Called::Closed(_, writer) => {
-                asked.push(writer.bytes().to_vec(alloc)?)?;
-            }
-            Called::Connected(_) | Called::Failed(_) => {}
-        }
-    }
-    Ok(asked)
-}
-
-/// The records of all packets, once and in order.
-fn all_records(alloc: Global) -> Result<Vec<u8>, Fail> {
-    let mut all = Vec::new(alloc);
-    for (packets, _) in &VISITS {
-        for (_, station) in *packets {
-            all.extend_from_slice(&record(station)?)?;
-        }
-    }
-    Ok(all)
-}
-
-/// What comes of servers for a reader that goes on after these packets, of which it keeps nothing.
-fn read_after(alloc: Global, lasts: &[LastPacket], sent: &[Vec<u8>]) -> Result<Followed, Fail> {
-    let wants = wants(alloc, [b"GE_WLF", b"GE_APE@00000A"])?;
+/// The same of a reader that goes on after those packets.
+fn are_read_after(
+    alloc: Global,
+    row: &Row,
+    sent: &[Vec<u8>],
+    lasts: &[LastPacket],
+) -> Result<bool, Fail> {
+    let wants = wants_of(alloc, &[b"GE_WLF", b"GE_APE@00000A"], FROM_NOW_ON)?;
     let mut tally = Tally::after(alloc, &wants, lasts)?;
-    Ok(read_on(alloc, &mut tally, &wants, sent, &mut NothingKept))
+    let mut keeper = MemoryKeeper::new(alloc, row.due.to_vec(alloc)?, row.failing.to_vec(alloc)?);
+    Ok(are_read(alloc, row, sent, &wants, &mut tally, &mut keeper))
+}
+
+/// The same by what the row says.
+fn is_right(alloc: Global, row: &Row) -> Result<bool, Fail> {
+    let state = read_state(alloc, row.state)?;
+    let sent = sent_by(alloc, row.servers)?;
+    are_read_after(alloc, row, &sent, state.lasts())
 }
 
 #[test]
-fn each_server_is_asked_for_what_comes_after_the_last_packet(rt: HostRuntime) -> Result<(), Fail> {
-    let alloc = rt.alloc();
-    let read = read_after(alloc, &[], &sent(alloc)?)?;
-    assert!(rt; read.end.is_ok());
-    assert!(rt; read.records.as_slice() == all_records(alloc)?.as_slice());
-    let asked = read.asked?;
-    assert_eq!(rt; asked.len(), 3);
-    for (asked, wanted) in asked.iter().zip(&ASKED) {
-        assert!(rt; asked.as_slice() == *wanted);
+fn servers_are_read_one_after_the_other(rt: HostRuntime) -> Result<(), Fail> {
+    for (row, line) in ROWS.iter().enumerate() {
+        assert!(rt; is_right(rt.alloc(), line)?, "in row {row}");
     }
     Ok(())
-}
-
-#[test]
-fn without_a_server_the_reading_ends(rt: HostRuntime) -> Result<(), Fail> {
-    let alloc = rt.alloc();
-    let wants = wants(alloc, [b"GE_WLF", b"GE_APE"])?;
-    let mut tally = Tally::before(alloc, &wants)?;
-    let sent = sent(alloc)?;
-    assert_eq!(rt; sent.len(), 3);
-    let read = read_on(alloc, &mut tally, &wants, &sent[..1], &mut NothingKept);
-    assert!(rt; matches!(read.end, Err(Break::Server(NoServer))));
-    assert!(rt; read.records.len() == 1_024);
-    Ok(())
-}
-
-/// How many records had been made to last at each deed, and how many packets were kept then; None where a deed is of
-/// another kind.
-fn is_kept(done: &[Done], wanted: &[(usize, u64)]) -> bool {
-    if done.len() != wanted.len().saturating_mul(2) {
-        return false;
-    }
-    for (pair, (records, packets)) in done.chunks(2).zip(wanted) {
-        let is_right = match pair {
-            [Done::Flushed(written), Done::Kept(tally)] => {
-                written.len() / 512 == *records && tally.records() == *packets
-            }
-            _ => false,
-        };
-        if !is_right {
-            return false;
-        }
-    }
-    true
-}
-
-/// What is kept of the three servers, where it is due as said: at the end of each connection, and before the reads in
-/// between at which it is due.
-fn is_kept_by(alloc: Global, due: Vec<bool>, wanted: &[(usize, u64)]) -> Result<bool, Fail> {
-    let wants = wants(alloc, [b"GE_WLF", b"GE_APE@00000A"])?;
-    let mut tally = Tally::before(alloc, &wants)?;
-    let mut keeper = MemoryKeeper::new(alloc, due, Vec::new(alloc));
-    let read = read_on(alloc, &mut tally, &wants, &sent(alloc)?, &mut keeper);
-    Ok(read.end.is_ok() && is_kept(keeper.done(), wanted))
-}
-
-#[test]
-fn what_is_kept_counts_what_lasts(rt: HostRuntime) -> Result<(), Fail> {
-    let alloc = rt.alloc();
-    let never = Vec::new(alloc);
-    assert!(rt; is_kept_by(alloc, never, &[(2, 2), (4, 4), (5, 5)])?);
-    // The last is asked first: after the first packet it is due, after the second it is not.
-    let mut once = Vec::new(alloc);
-    once.push(true)?;
-    assert!(rt; is_kept_by(alloc, once, &[(1, 1), (2, 2), (4, 4), (5, 5)])?);
-    Ok(())
-}
-
-/// What is done where calls of a keeper fail, the last first, and how the reading ends.
-fn failed(alloc: Global, failing: Vec<bool>) -> Result<(Followed, usize, u64), Fail> {
-    let wants = wants(alloc, [b"GE_WLF", b"GE_APE@00000A"])?;
-    let mut tally = Tally::before(alloc, &wants)?;
-    let mut keeper = MemoryKeeper::new(alloc, Vec::new(alloc), failing);
-    let read = read_on(alloc, &mut tally, &wants, &sent(alloc)?, &mut keeper);
-    Ok((read, keeper.done().len(), tally.records()))
-}
-
-#[test]
-fn nothing_is_kept_of_what_does_not_last(rt: HostRuntime) -> Result<(), Fail> {
-    let alloc = rt.alloc();
-    let mut at_once = Vec::new(alloc);
-    at_once.push(true)?;
-    let (read, done, counted) = failed(alloc, at_once)?;
-    assert!(rt; matches!(read.end, Err(Break::Listing(ListingFault::State))));
-    assert!(rt; read.records.len() == 1_024);
-    assert!(rt; (done, counted) == (0, 0));
-    // The records last, and what was counted is not kept.
-    let mut then = Vec::new(alloc);
-    then.push(true)?;
-    then.push(false)?;
-    let (read, done, counted) = failed(alloc, then)?;
-    assert!(rt; matches!(read.end, Err(Break::Listing(ListingFault::State))));
-    assert!(rt; (done, counted) == (1, 0));
-    Ok(())
-}
-
-/// Packets with the number 0 as the last ones of both stations.
-fn lasts(alloc: Global) -> Result<Vec<LastPacket>, Fail> {
-    let mut lasts = Vec::new(alloc);
-    for station in [b"WLF", b"APE"] {
-        let number = Seq::of(0).ok_or("a number")?;
-        let reached = Reached { number, end: None };
-        lasts.push(LastPacket::new(alloc, b"GE", station, reached)?)?;
-    }
-    Ok(lasts)
-}
-
-/// A want's own number counts only for a station that has no packet yet.
-#[test]
-fn a_state_stands_for_what_was_read_before(rt: HostRuntime) -> Result<(), Fail> {
-    let alloc = rt.alloc();
-    let sent = sent(alloc)?;
-    assert_eq!(rt; sent.len(), 3);
-    let read = read_after(alloc, &lasts(alloc)?, &sent[1..2])?;
-    assert!(rt; matches!(read.end, Err(Break::Server(NoServer))));
-    let asked = read.asked?;
-    assert_eq!(rt; asked.len(), 1);
-    assert!(rt; asked[0].as_slice() == ASKED_AFTER);
-    assert!(rt; read.records.len() == 1_024);
-    Ok(())
-}
-
-#[test]
-fn nothing_kept_is_never_due(rt: HostRuntime) {
-    let mut keeper = NothingKept;
-    assert!(rt; !Keeper::<Gathered<MemorySink>>::is_due(&mut keeper));
-    let records = Gathered::new(rt.alloc(), MemorySink::new(rt.alloc()));
-    assert!(rt; keeper.flush(&records) == Ok::<(), KeepFault>(()));
 }

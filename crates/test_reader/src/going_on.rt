@@ -1,22 +1,26 @@
 //! A reader that goes on over one connection after the other.
-use crate::packets::record;
-use reader_run::{Gathered, ListingFault, NothingKept, Nowhere, Times, read_further};
+use crate::pieces::{APE, FROM_NOW_ON, HELD, Piece, WLF, are_pieces, joined, wants_of};
+use Piece::Bytes;
+use reader_run::{Gathered, Keeper, ListingFault, NothingKept, Nowhere, Times, read_further};
 use sl_io::{MemorySink, MemorySource};
-use sl_packet::{Seq, frame};
 use slreader::{ReaderFault, Tally, Want, Window};
 use std::alloc::Global;
 use std::test::Fail;
 
 /// What a server sends before the packets of two wants.
-const NEGOTIATED: &[u8] = b"SeedLink v3\r\n\r\nOK\r\nOK\r\nOK\r\nOK\r\n";
+pub const NEGOTIATED: Piece = Bytes(b"SeedLink v3\r\n\r\nOK\r\nOK\r\nOK\r\nOK\r\n");
 
-/// What a connection brings: packets by their numbers and stations, and then some bytes.
+/// The actions that are asked of GE WLF and of GE APE.
+pub type Actions = [&'static [u8]; 2];
+
+/// A connection.
 struct Visit {
-    packets: &'static [(u32, &'static [u8])],
-    rest: &'static [u8],
-    /// The actions that are asked of both wants.
-    asked: [&'static [u8]; 2],
-    /// How the connection ends.
+    /// What it brings.
+    sent: &'static [Piece],
+    asked: Actions,
+    /// The records that are written, each of which is counted.
+    records: &'static [Piece],
+    /// How it ends.
     end: Result<(), ListingFault>,
 }
 
@@ -31,51 +35,59 @@ const CUT: Result<(), ListingFault> = Err(ListingFault::Read);
 
 static ROWS: [Row; 3] = [
     Row {
-        window: Window::Following { begin: None },
+        window: FROM_NOW_ON,
         words: [b"GE_WLF", b"GE_APE@00000A"],
         visits: &[
             // The connection ends inside a packet, which is not counted.
             Visit {
-                packets: &[(0xff_ffff, b"WLF")],
-                rest: b"SL00000",
+                sent: &[NEGOTIATED, Bytes(b"SLFFFFFF"), WLF, Bytes(b"SL00000")],
                 asked: [b"DATA", b"DATA 00000A"],
+                records: &[WLF],
                 end: CUT,
             },
             Visit {
-                packets: &[(0, b"WLF"), (0xb, b"APE"), (1, b"WLF")],
-                rest: b"",
+                sent: &[
+                    NEGOTIATED,
+                    Bytes(b"SL000000"),
+                    WLF,
+                    Bytes(b"SL00000B"),
+                    APE,
+                    Bytes(b"SL000001"),
+                    WLF,
+                ],
                 asked: [b"DATA 000000", b"DATA 00000A"],
+                records: &[WLF, APE, WLF],
                 end: CUT,
             },
             Visit {
-                packets: &[],
-                rest: b"END",
+                sent: &[NEGOTIATED, Bytes(b"END")],
                 asked: [b"DATA 000002", b"DATA 00000C"],
+                records: &[],
                 end: Ok(()),
             },
         ],
     },
     Row {
-        window: Window::Held { begin: None },
+        window: HELD,
         words: [b"GE_WLF", b"GE_APE"],
         visits: &[
             Visit {
-                packets: &[(3, b"APE")],
-                rest: b"",
+                sent: &[NEGOTIATED, Bytes(b"SL000003"), APE],
                 asked: [b"FETCH", b"FETCH"],
+                records: &[APE],
                 end: CUT,
             },
             // Something that is not a packet: what came before it is counted.
             Visit {
-                packets: &[(7, b"WLF")],
-                rest: b"X",
+                sent: &[NEGOTIATED, Bytes(b"SL000007"), WLF, Bytes(b"X")],
                 asked: [b"FETCH", b"FETCH 000004"],
+                records: &[WLF],
                 end: Err(ListingFault::Reader(ReaderFault::NotAPacket)),
             },
             Visit {
-                packets: &[(4, b"APE")],
-                rest: b"END",
+                sent: &[NEGOTIATED, Bytes(b"SL000004"), APE, Bytes(b"END")],
                 asked: [b"FETCH 000008", b"FETCH 000004"],
+                records: &[APE],
                 end: Ok(()),
             },
         ],
@@ -87,58 +99,48 @@ static ROWS: [Row; 3] = [
         words: [b"GE_WLF", b"GE_APE"],
         visits: &[
             Visit {
-                packets: &[(5, b"WLF")],
-                rest: b"",
+                sent: &[NEGOTIATED, Bytes(b"SL000005"), WLF],
                 asked: [b"TIME 2024,2,29", b"TIME 2024,2,29"],
+                records: &[WLF],
                 end: CUT,
             },
             Visit {
-                packets: &[],
-                rest: b"",
+                sent: &[NEGOTIATED],
                 asked: [b"DATA 000006 2024,2,29", b"TIME 2024,2,29"],
+                records: &[],
                 end: CUT,
             },
             Visit {
-                packets: &[(6, b"WLF")],
-                rest: b"",
+                sent: &[NEGOTIATED, Bytes(b"SL000006"), WLF],
                 asked: [b"DATA 000006 2024,2,29", b"TIME 2024,2,29"],
+                records: &[WLF],
                 end: CUT,
             },
         ],
     },
 ];
 
-/// All that a server sends.
-fn sent(alloc: Global, visit: &Visit) -> Result<Vec<u8>, Fail> {
-    let mut sent = NEGOTIATED.to_vec(alloc)?;
-    for (number, station) in visit.packets {
-        let number = Seq::of(*number).ok_or("a number")?;
-        sent.extend_from_slice(&frame(number, &record(station)?))?;
-    }
-    sent.extend_from_slice(visit.rest)?;
-    Ok(sent)
-}
-
-/// All that is asked.
-fn asked(alloc: Global, visit: &Visit) -> Result<Vec<u8>, Fail> {
-    let [first, second] = visit.asked;
-    let mut asked = b"HELLO\rSTATION WLF GE\r".to_vec(alloc)?;
-    asked.extend_from_slice(first)?;
-    asked.extend_from_slice(b"\rSTATION APE GE\r")?;
-    asked.extend_from_slice(second)?;
-    asked.extend_from_slice(b"\rEND\r")?;
-    Ok(asked)
+/// Whether these commands ask for that of GE WLF and of GE APE.
+pub fn are_commands(commands: &[u8], [first, second]: Actions) -> bool {
+    let pieces = [
+        Bytes(b"HELLO\rSTATION WLF GE\r"),
+        Bytes(first),
+        Bytes(b"\rSTATION APE GE\r"),
+        Bytes(second),
+        Bytes(b"\rEND\r"),
+    ];
+    are_pieces(commands, &pieces)
 }
 
 /// Whether a connection is asked what the row says, ends as it says, and each of its packets is counted and has its
-/// record and its line written.
+/// record written.
 fn is_right(
     alloc: Global,
-    wants: &[Want<'_>],
+    wants: &[Want<'static>],
     tally: &mut Tally,
     visit: &Visit,
 ) -> Result<bool, Fail> {
-    let sent = sent(alloc, visit)?;
+    let sent = joined(alloc, visit.sent)?;
     let mut writer = MemorySink::new(alloc);
     let mut records = Gathered::new(alloc, MemorySink::new(alloc));
     let before = tally.records();
@@ -153,21 +155,17 @@ fn is_right(
         &mut records,
         &mut NothingKept,
     );
-    let count = visit.packets.len();
     Ok(
         end == visit.end
-            && writer.bytes() == asked(alloc, visit)?.as_slice()
-            && records.sink().bytes().len() / 512 == count
-            && tally.records().wrapping_sub(before) == count as u64,
+            && are_commands(writer.bytes(), visit.asked)
+            && are_pieces(records.sink().bytes(), visit.records)
+            && tally.records().wrapping_sub(before) == visit.records.len() as u64,
     )
 }
 
 /// Whether each connection of a row goes on after the one before.
 fn goes_on(alloc: Global, row: &Row) -> Result<bool, Fail> {
-    let mut wants = Vec::new(alloc);
-    for word in row.words {
-        wants.push(Want::parse(alloc, word, row.window)?)?;
-    }
+    let wants = wants_of(alloc, &row.words, row.window)?;
     let mut tally = Tally::before(alloc, &wants)?;
     for visit in row.visits {
         if !is_right(alloc, &wants, &mut tally, visit)? {
@@ -179,8 +177,9 @@ fn goes_on(alloc: Global, row: &Row) -> Result<bool, Fail> {
 
 #[test]
 fn a_reader_goes_on_after_what_was_written(rt: HostRuntime) -> Result<(), Fail> {
-    for row in &ROWS {
-        assert!(rt; goes_on(rt.alloc(), row)?);
+    for (row, line) in ROWS.iter().enumerate() {
+        assert!(rt; goes_on(rt.alloc(), line)?, "in row {row}");
     }
+    assert!(rt; !Keeper::<Gathered<MemorySink>>::is_due(&mut NothingKept));
     Ok(())
 }

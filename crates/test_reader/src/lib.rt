@@ -10,14 +10,12 @@ mod following;
 #[cfg(test)]
 mod going_on;
 #[cfg(test)]
-mod largest_plan;
-#[cfg(test)]
-mod order;
-#[cfg(test)]
 mod packets;
 #[cfg(test)]
-mod states;
+mod pieces;
 #[cfg(test)]
-mod windows;
+mod plans;
+#[cfg(test)]
+mod states;
 #[cfg(test)]
 mod words;

@@ -1,95 +1,163 @@
-//! Words of wants.
-use slreader::{ReaderFault, Want, WantPart, Window};
+//! Words of wants: what each asks for in a window of time, or which part of it is wrong.
+use crate::pieces::{FROM_NOW_ON, HELD, Piece, are_pieces};
+use reader_run::{Nowhere, Times, read_over};
+use sl_io::{MemorySink, MemorySource};
+use slreader::{Plan, ReaderFault, Want, WantPart, Window};
 use std::alloc::Global;
 use std::test::Fail;
 
-/// Words that spell no want that can be asked for, and the first part that is wrong.
-static MALFORMED: [(&[u8], WantPart); 22] = [
-    (b"", WantPart::Network),
-    (b"GE", WantPart::Station),
-    (b"GEWLF", WantPart::Network),
-    (b"GE.APE", WantPart::Network),
-    (b"_WLF", WantPart::Network),
-    (b"GE_", WantPart::Station),
-    (b"GEO_WLF", WantPart::Network),
-    (b"GE_WLFABC", WantPart::Station),
-    (b"ge_WLF", WantPart::Network),
-    (b"GE_wlf", WantPart::Station),
-    (b"GE_WLF_", WantPart::Station),
-    (b"GE_WLF:", WantPart::Patterns),
-    (b"GE_WLF:BH", WantPart::Patterns),
-    (b"GE_WLF:BHZ,", WantPart::Patterns),
-    (b"GE_WLF:BHZ,,EHZ", WantPart::Patterns),
-    (b"GE_WLF:BHZ.Q", WantPart::Patterns),
-    (b"GE_WLF@", WantPart::Number),
-    (b"GE_WLF@0000000", WantPart::Number),
-    (b"GE_WLF@G", WantPart::Number),
-    (b"GE_WLF@1@2", WantPart::Number),
-    (b"GE_WLF:B@G", WantPart::Patterns),
-    (b"ge_wlf:B@G", WantPart::Network),
-];
+/// What comes of a word.
+enum Meaning {
+    /// A want with so many patterns.
+    Patterns(usize),
+    /// A want that is asked for by this action.
+    Action(&'static [u8]),
+    /// Nothing that can be asked for: this is the first part that is wrong.
+    Wrong(WantPart),
+}
 
-/// Words that spell a want, with the number of its patterns.
-static RIGHT: [(&[u8], usize); 9] = [
-    (b"GE_WLF", 0),
-    (b"G_W", 0),
-    (b"GE_WLF12", 0),
-    (b"GE_WLF:BH?", 1),
-    (b"GE_WLF:BH?,!E", 2),
-    (b"GE_WLF:BH?,!E@0000A3", 2),
-    (b"GE_WLF@a3", 0),
-    (b"GE_WLF:00BHZ.D,--LCQ,.T,L", 4),
+use Meaning::{Action, Patterns, Wrong};
+
+const BEGIN: &[u8] = b"2024,02,29,00,00,00";
+
+/// Windows that begin at that moment.
+const SINCE: Window<'static> = Window::Following { begin: Some(BEGIN) };
+
+const HELD_SINCE: Window<'static> = Window::Held { begin: Some(BEGIN) };
+
+const BETWEEN: Window<'static> = Window::Between {
+    begin: BEGIN,
+    last: b"2024,3,1",
+};
+
+/// A window that begins at a day that there was not.
+const NEVER: Window<'static> = Window::Following {
+    begin: Some(b"2023,2,29"),
+};
+
+static ROWS: [(&[u8], Window<'static>, Meaning); 43] = [
+    (b"GE_WLF", HELD, Patterns(0)),
+    (b"G_W", HELD, Patterns(0)),
+    (b"GE_WLF12", HELD, Patterns(0)),
+    (b"GE_WLF:BH?", HELD, Patterns(1)),
+    (b"GE_WLF:BH?,!E", HELD, Patterns(2)),
+    (b"GE_WLF:BH?,!E@0000A3", HELD, Patterns(2)),
+    (b"GE_WLF@a3", HELD, Patterns(0)),
+    (b"GE_WLF:00BHZ.D,--LCQ,.T,L", HELD, Patterns(4)),
     (
         b"GE_WLF:A00,A01,A02,A03,A04,A05,A06,A07,A08,A09,A10,A11,A12,A13,A14,A15",
-        16,
+        HELD,
+        Patterns(16),
     ),
+    (
+        b"GE_WLF:BH?,!E,!E,!E,!E,!E,!E,!E,!E,!E,!E,!E,!E,!E,!E,!E,!E,!E,!E,!E,!E,!E,!E,!E,!E,!E,!E,!E,!E,!E,!E,!E,!E\
+        ,!E,!E,!E,!E,!E,!E,!E,!E,!E,!E,!E,!E,!E,!E,!E,!E,!E,!E,!E,!E,!E,!E,!E,!E,!E,!E,!E,!E,!E,!E,!E",
+        HELD,
+        Patterns(64),
+    ),
+    // More than 64 patterns.
+    (
+        b"GE_WLF:BH?,!E,!E,!E,!E,!E,!E,!E,!E,!E,!E,!E,!E,!E,!E,!E,!E,!E,!E,!E,!E,!E,!E,!E,!E,!E,!E,!E,!E,!E,!E,!E,!E\
+        ,!E,!E,!E,!E,!E,!E,!E,!E,!E,!E,!E,!E,!E,!E,!E,!E,!E,!E,!E,!E,!E,!E,!E,!E,!E,!E,!E,!E,!E,!E,!E,!E",
+        HELD,
+        Wrong(WantPart::Patterns),
+    ),
+    (b"", HELD, Wrong(WantPart::Network)),
+    (b"GE", HELD, Wrong(WantPart::Station)),
+    (b"GEWLF", HELD, Wrong(WantPart::Network)),
+    (b"GE.APE", HELD, Wrong(WantPart::Network)),
+    (b"_WLF", HELD, Wrong(WantPart::Network)),
+    (b"GE_", HELD, Wrong(WantPart::Station)),
+    (b"GEO_WLF", HELD, Wrong(WantPart::Network)),
+    (b"GE_WLFABC", HELD, Wrong(WantPart::Station)),
+    (b"ge_WLF", HELD, Wrong(WantPart::Network)),
+    (b"GE_wlf", HELD, Wrong(WantPart::Station)),
+    (b"GE_WLF_", HELD, Wrong(WantPart::Station)),
+    (b"GE_WLF:", HELD, Wrong(WantPart::Patterns)),
+    (b"GE_WLF:BH", HELD, Wrong(WantPart::Patterns)),
+    (b"GE_WLF:BHZ,", HELD, Wrong(WantPart::Patterns)),
+    (b"GE_WLF:BHZ,,EHZ", HELD, Wrong(WantPart::Patterns)),
+    (b"GE_WLF:BHZ.Q", HELD, Wrong(WantPart::Patterns)),
+    (b"GE_WLF@", HELD, Wrong(WantPart::Number)),
+    (b"GE_WLF@0000000", HELD, Wrong(WantPart::Number)),
+    (b"GE_WLF@G", HELD, Wrong(WantPart::Number)),
+    (b"GE_WLF@1@2", HELD, Wrong(WantPart::Number)),
+    (b"GE_WLF:B@G", HELD, Wrong(WantPart::Patterns)),
+    (b"ge_wlf:B@G", HELD, Wrong(WantPart::Network)),
+    (b"GE_APE", FROM_NOW_ON, Action(b"DATA")),
+    (b"GE_APE@a3", FROM_NOW_ON, Action(b"DATA 0000A3")),
+    (b"GE_APE", SINCE, Action(b"TIME 2024,02,29,00,00,00")),
+    (
+        b"GE_APE@a3",
+        SINCE,
+        Action(b"DATA 0000A3 2024,02,29,00,00,00"),
+    ),
+    (b"GE_APE", HELD, Action(b"FETCH")),
+    (
+        b"GE_APE@a3",
+        HELD_SINCE,
+        Action(b"FETCH 0000A3 2024,02,29,00,00,00"),
+    ),
+    (b"GE_APE", HELD_SINCE, Wrong(WantPart::Number)),
+    (
+        b"GE_APE",
+        BETWEEN,
+        Action(b"TIME 2024,02,29,00,00,00 2024,3,1"),
+    ),
+    (b"GE_APE@a3", BETWEEN, Wrong(WantPart::Number)),
+    // A moment that is not valid can't be asked for.
+    (b"GE_APE", NEVER, Wrong(WantPart::Number)),
 ];
 
-/// The first wrong part of a word for which what is held is asked.
-fn wrong_part(word: &[u8]) -> Option<WantPart> {
-    Want::wrong_part(word, Window::Held { begin: None })
+/// A server that takes one want, and has nothing.
+const NEGOTIATED: &[u8] = b"SeedLink v3.0\r\nTest Centre\r\nOK\r\nOK\r\nEND";
+
+/// Whether a want of GE APE is asked for by that action.
+fn is_asked(alloc: Global, want: Want<'_>, action: &'static [u8]) -> Result<bool, Fail> {
+    let mut wants = Vec::new(alloc);
+    wants.push(want)?;
+    let mut writer = MemorySink::new(alloc);
+    let end = read_over(
+        alloc,
+        Times::Ticks,
+        Plan::Multi(wants),
+        &mut MemorySource::new(NEGOTIATED),
+        &mut writer,
+        &mut Nowhere::new(),
+        &mut Nowhere::new(),
+    );
+    let asked = [
+        Piece::Bytes(b"HELLO\rSTATION APE GE\r"),
+        Piece::Bytes(action),
+        Piece::Bytes(b"\rEND\r"),
+    ];
+    Ok(end == Ok(()) && are_pieces(writer.bytes(), &asked))
 }
 
-/// How many patterns the want of a word has, or why it is none.
-fn patterns(alloc: Global, word: &[u8]) -> Result<usize, ReaderFault> {
-    let want = Want::parse(alloc, word, Window::Held { begin: None })?;
-    Ok(want.patterns.len())
-}
-
-/// A word with so many patterns more than one.
-fn word_of(alloc: Global, more: usize) -> Result<Vec<u8>, Fail> {
-    let mut word = b"GE_WLF:BH?".to_vec(alloc)?;
-    for _ in 0..more {
-        word.extend_from_slice(b",!E")?;
+/// Whether a word in a window means that.
+fn is_meant(
+    alloc: Global,
+    word: &'static [u8],
+    window: Window<'static>,
+    meaning: &Meaning,
+) -> Result<bool, Fail> {
+    let wrong = Want::wrong_part(word, window);
+    match (Want::parse(alloc, word, window), meaning) {
+        (Ok(want), Patterns(count)) => Ok(wrong == None && want.patterns.len() == *count),
+        (Ok(want), Action(action)) => Ok(wrong == None && is_asked(alloc, want, action)?),
+        (Err(fault), Wrong(part)) => Ok(fault == ReaderFault::Limit && wrong == Some(*part)),
+        _ => Ok(false),
     }
-    Ok(word)
 }
 
 #[test]
-fn a_want_has_at_most_64_patterns(rt: HostRuntime) -> Result<(), Fail> {
-    let alloc = rt.alloc();
-    assert!(rt; patterns(alloc, &word_of(alloc, 63)?) == Ok(64));
-    assert!(rt; patterns(alloc, &word_of(alloc, 64)?) == Err(ReaderFault::Limit));
-    assert!(rt; wrong_part(&word_of(alloc, 63)?) == None);
-    assert!(rt; wrong_part(&word_of(alloc, 64)?) == Some(WantPart::Patterns));
-    Ok(())
-}
-
-#[test]
-fn malformed_words_are_refused(rt: HostRuntime) -> Result<(), Fail> {
-    for (word, part) in &MALFORMED {
-        assert!(rt; patterns(rt.alloc(), word) == Err(ReaderFault::Limit));
-        assert!(rt; wrong_part(word) == Some(*part));
+fn words_mean_wants(rt: HostRuntime) -> Result<(), Fail> {
+    for (row, (word, window, meaning)) in ROWS.iter().enumerate() {
+        assert!(rt;
+            is_meant(rt.alloc(), word, *window, meaning)?,
+            "in row {row}"
+        );
     }
     assert_eq!(rt; ReaderFault::Limit.reason().number(), 22);
-    Ok(())
-}
-
-#[test]
-fn right_words_are_taken(rt: HostRuntime) -> Result<(), Fail> {
-    for (word, count) in &RIGHT {
-        assert!(rt; patterns(rt.alloc(), word) == Ok(*count));
-        assert!(rt; wrong_part(word) == None);
-    }
     Ok(())
 }
