@@ -34,10 +34,94 @@ first = "FFFF00"
 /// The place of a station that is not there.
 const NOWHERE: usize = 3;
 
-fn empty(alloc: Global) -> Result<Rings, Fail> {
-    let config = Config::read(alloc, SMALL_AND_LARGE)?;
-    Ok(Rings::new(alloc, &config)?)
+/// A step of what is done with the rings, and of what is asked of them.
+enum Step {
+    /// A record of the station at a place arrives, where one is there, and is given that number.
+    Arrival(usize, Option<u32>),
+    /// So many more records of the third station arrive.
+    More(u32),
+    /// So many records have arrived.
+    Count(u64),
+    /// A request for a station from a number on starts at that position.
+    Start(usize, u32, u64),
+    /// The position of the oldest record of a station, or else of the next arrival.
+    Oldest(usize, u64),
+    /// The position of what is held at a place of a station's ring.
+    Held(usize, u64, Option<u64>),
 }
+
+use Step::{Arrival, Count, Held, More, Oldest, Start};
+
+/// Empty rings hold nothing: requests start at the next arrival.
+static NOTHING: [Step; 13] = [
+    Count(0),
+    Oldest(0, 0),
+    Start(0, 0x10, 0),
+    Held(0, 0, None),
+    Oldest(1, 0),
+    Start(1, 0x10, 0),
+    Held(1, 0, None),
+    Oldest(2, 0),
+    Start(2, 0x10, 0),
+    Held(2, 0, None),
+    Oldest(NOWHERE, 0),
+    Start(NOWHERE, 0x10, 0),
+    Held(NOWHERE, 0, None),
+];
+
+/// Each station has numbers of its own. After records of two stations and one of the third, at the positions 0, 2, 3, 5
+/// and 7, at 1 and 4, and at 6, the rings hold the last of each.
+static FEW: [Step; 35] = [
+    Arrival(0, Some(0xFFFFFE)),
+    Arrival(1, Some(0x10)),
+    Arrival(0, Some(0xFFFFFF)),
+    Arrival(0, Some(0)),
+    Arrival(1, Some(0x11)),
+    Arrival(NOWHERE, None),
+    Arrival(0, Some(1)),
+    Arrival(2, Some(0xFFFF00)),
+    Arrival(0, Some(2)),
+    Count(8),
+    Start(0, 0xFFFFFE, 3),
+    Start(0, 0xFFFFFF, 3),
+    Start(0, 0, 3),
+    Start(0, 1, 5),
+    Start(0, 2, 7),
+    Start(0, 3, 8),
+    Start(0, 4, 3),
+    Start(1, 0x10, 4),
+    Start(1, 0x11, 4),
+    Start(1, 0x12, 8),
+    Start(2, 0xFFFF00, 6),
+    Start(2, 0xFFFF01, 8),
+    Start(NOWHERE, 0, 8),
+    Oldest(0, 3),
+    Oldest(1, 4),
+    Oldest(2, 6),
+    Oldest(NOWHERE, 8),
+    Held(0, 1, None),
+    Held(0, 2, Some(3)),
+    Held(0, 4, Some(7)),
+    Held(0, 5, None),
+    Held(1, 0, None),
+    Held(1, 1, Some(4)),
+    Held(2, 0, Some(6)),
+    Held(NOWHERE, 0, None),
+];
+
+/// The largest ring keeps all but the first.
+static LARGEST: [Step; 10] = [
+    More(65_537),
+    Count(65_537),
+    Oldest(2, 1),
+    Start(2, 0xFFFF00, 1),
+    Start(2, 0xFFFF01, 1),
+    Start(2, 0xFFFFFF, 255),
+    Start(2, 0, 256),
+    Start(2, 0x00FF00, 65_536),
+    Start(2, 0x00FF01, 65_537),
+    Start(2, 0x00FF02, 1),
+];
 
 /// A record of the station at a place arrives, where one is there: its number.
 fn arrive(rings: &mut Rings, place: usize) -> Option<u32> {
@@ -49,143 +133,65 @@ fn arrive(rings: &mut Rings, place: usize) -> Option<u32> {
     Some(number.value())
 }
 
-/// The position of the record with a number, as a request means it.
-fn from(rings: &Rings, place: usize, value: u32) -> Option<u64> {
-    Some(rings.from_number(place, Seq::of(value)?))
-}
-
-/// The position of what is held at a place of a station's ring.
-fn position_at(rings: &Rings, station: usize, place: u64) -> Option<u64> {
-    Some(rings.ring(station)?.get(place)?.stamp)
-}
-
-/// The rings after records of two stations and one of the third: at the positions 0, 2, 3, 5 and 7, at 1 and 4, and at
-/// 6.
-fn filled(alloc: Global) -> Result<Rings, Fail> {
-    let mut rings = empty(alloc)?;
-    for place in [0, 1, 0, 0, 1, 0, 2, 0] {
-        let _number = arrive(&mut rings, place);
+/// So many records of the third station arrive.
+fn arrive_often(rings: &mut Rings, count: u32) -> bool {
+    for _ in 0..count {
+        if arrive(rings, 2).is_none() {
+            return false;
+        }
     }
-    Ok(rings)
+    true
 }
 
-#[test]
-fn each_station_has_numbers_of_its_own(rt: HostRuntime) -> Result<(), Fail> {
-    let mut rings = empty(rt.alloc())?;
-    for (place, number) in [
-        (0, Some(0xFFFFFE)),
-        (1, Some(0x10)),
-        (0, Some(0xFFFFFF)),
-        (0, Some(0)),
-        (1, Some(0x11)),
-        (NOWHERE, None),
-        (0, Some(1)),
-        (2, Some(0xFFFF00)),
-        (0, Some(2)),
-    ] {
-        assert!(rt; arrive(&mut rings, place) == number, "{place}");
+/// Whether the record at that position is held at a place of a station's ring, or none.
+fn holds(rings: &Rings, station: usize, place: u64, position: Option<u64>) -> bool {
+    let Some(ring) = rings.ring(station) else {
+        return position.is_none();
+    };
+    match (ring.get(place), position) {
+        (Some(held), Some(position)) => {
+            held.stamp == position
+                && held.bytes == record(position)
+                && is_same(&held.summary, &summary(position))
+        }
+        (None, None) => true,
+        _ => false,
     }
-    assert_eq!(rt; rings.arrivals(), 8);
-    Ok(())
 }
 
-/// Stations, numbers, and the positions at which requests from them start.
-static POSITIONS: [(usize, u32, u64); 13] = [
-    (0, 0xFFFFFE, 3),
-    (0, 0xFFFFFF, 3),
-    (0, 0, 3),
-    (0, 1, 5),
-    (0, 2, 7),
-    (0, 3, 8),
-    (0, 4, 3),
-    (1, 0x10, 4),
-    (1, 0x11, 4),
-    (1, 0x12, 8),
-    (2, 0xFFFF00, 6),
-    (2, 0xFFFF01, 8),
-    (NOWHERE, 0, 8),
-];
-
-#[test]
-fn requests_start_at_positions(rt: HostRuntime) -> Result<(), Fail> {
-    let rings = filled(rt.alloc())?;
-    for &(place, number, position) in &POSITIONS {
-        assert!(rt;
-            from(&rings, place, number) == Some(position),
-            "{place} {number}"
-        );
+/// Whether a step goes as it says.
+fn goes(rings: &mut Rings, step: &Step) -> bool {
+    match *step {
+        Arrival(station, number) => arrive(rings, station) == number,
+        More(count) => arrive_often(rings, count),
+        Count(count) => rings.arrivals() == count,
+        Start(station, number, position) => match Seq::of(number) {
+            Some(number) => rings.from_number(station, number) == position,
+            None => false,
+        },
+        Oldest(station, position) => rings.oldest_held(station) == position,
+        Held(station, place, position) => holds(rings, station, place, position),
     }
-    Ok(())
 }
 
-#[test]
-fn each_station_has_an_oldest_record(rt: HostRuntime) -> Result<(), Fail> {
-    let rings = filled(rt.alloc())?;
-    for (place, oldest) in [(0, 3), (1, 4), (2, 6), (NOWHERE, 8)] {
-        assert!(rt; rings.oldest_held(place) == oldest, "{place}");
+/// The first step that goes otherwise at empty rings.
+fn first_other(alloc: Global, steps: &[Step]) -> Result<Option<usize>, Fail> {
+    let config = Config::read(alloc, SMALL_AND_LARGE)?;
+    let mut rings = Rings::new(alloc, &config)?;
+    for (place, step) in steps.iter().enumerate() {
+        if !goes(&mut rings, step) {
+            return Ok(Some(place));
+        }
     }
-    Ok(())
+    Ok(None)
 }
 
 #[test]
 fn rings_hold_the_last_of_each_station(rt: HostRuntime) -> Result<(), Fail> {
-    let rings = filled(rt.alloc())?;
-    for (station, place, position) in [
-        (0, 1, None),
-        (0, 2, Some(3)),
-        (0, 4, Some(7)),
-        (0, 5, None),
-        (1, 0, None),
-        (1, 1, Some(4)),
-        (2, 0, Some(6)),
-        (NOWHERE, 0, None),
-    ] {
-        assert!(rt;
-            position_at(&rings, station, place) == position,
-            "{station} {place}"
-        );
-    }
-    let held = rings.ring(0).and_then(|ring| ring.get(4));
-    assert!(rt; held.is_some_and(|held| held.bytes == record(7)));
-    assert!(rt; held.is_some_and(|held| is_same(&held.summary, &summary(7))));
-    Ok(())
-}
-
-/// Whether nothing is held of a station, and requests start at the next arrival.
-fn is_empty_at(rings: &Rings, place: usize) -> bool {
-    rings.oldest_held(place) == rings.arrivals()
-        && from(rings, place, 0x10) == Some(rings.arrivals())
-        && position_at(rings, place, 0).is_none()
-}
-
-#[test]
-fn empty_rings_hold_nothing(rt: HostRuntime) -> Result<(), Fail> {
-    let rings = empty(rt.alloc())?;
-    assert!(rt; rings.arrivals() == 0);
-    for place in [0, 1, 2, NOWHERE] {
-        assert!(rt; is_empty_at(&rings, place), "{place}");
-    }
-    Ok(())
-}
-
-#[test]
-fn the_largest_ring_keeps_all_but_the_first(rt: HostRuntime) -> Result<(), Fail> {
-    let mut rings = empty(rt.alloc())?;
-    for _ in 0..65_537 {
-        let _number = arrive(&mut rings, 2);
-    }
-    assert_eq!(rt; rings.arrivals(), 65_537);
-    assert_eq!(rt; rings.oldest_held(2), 1);
-    for (number, position) in [
-        (0xFFFF00, 1),
-        (0xFFFF01, 1),
-        (0xFFFFFF, 255),
-        (0, 256),
-        (0x00FF00, 65_536),
-        (0x00FF01, 65_537),
-        (0x00FF02, 1),
-    ] {
-        assert!(rt; from(&rings, 2, number) == Some(position), "{number}");
+    let scenes: [(&str, &[Step]); 3] = [("empty", &NOTHING), ("few", &FEW), ("many", &LARGEST)];
+    for (scene, steps) in scenes {
+        let step = first_other(rt.alloc(), steps)?;
+        assert!(rt; step.is_none(), "in {scene}: {step:?}");
     }
     Ok(())
 }

@@ -119,46 +119,6 @@ fn start_it(session: &mut Session, rings: &Rings)
     }
 }
 
-/// What is chosen for a client that sends a line, where nothing waits for it, and how many bytes wait then.
-fn chosen_after(
-    alloc: Global,
-    config: &Config,
-    rings: &Rings,
-    line: &[u8],
-) -> Result<(Option<Chosen>, usize), AllocError> {
-    let mut session = opened(alloc, config)?;
-    say(config, &mut session, line);
-    start_it(&mut session, rings);
-    let mut choice = None;
-    if session.waiting().is_empty() {
-        choice = Some(choose(&mut session, config, rings));
-    }
-    Ok((choice, session.waiting().len()))
-}
-
-/// The rings of both stations, of which the first has one record.
-fn one_record(alloc: Global, config: &Config) -> Result<Rings, AllocError> {
-    let mut rings = Rings::new(alloc, config)?;
-    arrive(&mut rings, &[0]);
-    Ok(rings)
-}
-
-#[test]
-fn a_choice_tells_what_waits(rt: HostRuntime) -> Result<(), Fail> {
-    let config = Config::read(rt.alloc(), TWO_STATIONS)?;
-    let rings = one_record(rt.alloc(), &config)?;
-    for (line, choice, count) in [
-        (b"HELLO\r".as_slice(), Chosen::Nothing, 0),
-        (b"DATA\r", Chosen::Nothing, 0),
-        (b"FETCH\r", Chosen::Packet, 520),
-        (b"FETCH 0\r", Chosen::Complete, 3),
-    ] {
-        let given = chosen_after(rt.alloc(), &config, &rings, line)?;
-        assert!(rt; given == (Some(choice), count));
-    }
-    Ok(())
-}
-
 /// The cursor of the first named station, where it is asked for something.
 fn first_cursor(session: &Session) -> Option<u64> {
     match session.choices().first() {
@@ -167,117 +127,183 @@ fn first_cursor(session: &Session) -> Option<u64> {
     }
 }
 
-/// The cursor of the first request after its transfer has started, after the first choice, and when twelve were taken.
-#[derive(Debug, Drop, PartialEq)]
-struct Cursors {
-    started: Option<u64>,
-    chosen: Option<u64>,
-    last: Option<u64>,
+/// What is asked of a transfer.
+enum Asked {
+    /// What is chosen.
+    Choice,
+    /// Whether something is found, before it is chosen.
+    Found(bool),
+    /// The cursor of the first request once the transfer has started, after the first choice, and when twelve were
+    /// taken.
+    Cursors([u64; 3]),
 }
 
-fn cursors_of(
-    alloc: Global,
-    config: &Config,
-    rings: &mut Rings,
-    (lines, before, after): (&[&[u8]], &[usize], &[usize]),
-) -> Result<Cursors, AllocError> {
-    arrive(rings, before);
-    let mut session = opened(alloc, config)?;
-    say_all(config, &mut session, lines);
-    start_it(&mut session, rings);
-    let started = first_cursor(&session);
-    arrive(rings, after);
-    if session.waiting().is_empty() {
-        let _ = choose(&mut session, config, rings);
-    }
-    let reached = first_cursor(&session);
-    take(config, &mut session);
-    take_all(config, rings, &mut session);
-    Ok(Cursors {
-        started,
-        chosen: reached,
-        last: first_cursor(&session),
-    })
+use Asked::{Choice, Cursors, Found};
+
+/// A client, and what is chosen for it.
+struct Row {
+    /// The stations of the records that arrive before it sends its lines.
+    before: &'static [usize],
+    lines: &'static [&'static [u8]],
+    /// The stations of those that arrive once its transfer has started.
+    after: &'static [usize],
+    chosen: Chosen,
+    asked: Asked,
 }
 
-/// The lines of a client, the stations of the first arrivals and of those that come once its transfer has started, and
-/// the three cursors.
-type CursorRow = (
-    &'static [&'static [u8]],
-    &'static [usize],
-    &'static [usize],
-    [u64; 3],
-);
-
-/// A request for what is to come; one for all that is held, of which one is gone; one that is overrun; and one that
-/// passes a record.
-static CURSORS: [CursorRow; 4] = [
-    (&[b"DATA\r"], &[0, 0], &[], [2, 2, 2]),
-    (&[b"FETCH\r"], &[0, 0, 0], &[], [1, 2, 3]),
-    (&[b"DATA 0\r"], &[0, 0], &[0, 0], [1, 3, 4]),
-    (&[b"SELECT BHN\r", b"FETCH\r"], &[0, 0], &[], [0, 2, 2]),
+static ROWS: [Row; 13] = [
+    Row {
+        before: &[0],
+        lines: &[b"HELLO\r"],
+        after: &[],
+        chosen: Chosen::Nothing,
+        asked: Choice,
+    },
+    Row {
+        before: &[0],
+        lines: &[b"DATA\r"],
+        after: &[],
+        chosen: Chosen::Nothing,
+        asked: Choice,
+    },
+    Row {
+        before: &[0],
+        lines: &[b"FETCH\r"],
+        after: &[],
+        chosen: Chosen::Packet,
+        asked: Choice,
+    },
+    Row {
+        before: &[0],
+        lines: &[b"FETCH 0\r"],
+        after: &[],
+        chosen: Chosen::Complete,
+        asked: Choice,
+    },
+    // A request for what is to come; one for all that is held, of which one is gone; one that is overrun; and one that
+    // passes a record.
+    Row {
+        before: &[0, 0],
+        lines: &[b"DATA\r"],
+        after: &[],
+        chosen: Chosen::Nothing,
+        asked: Cursors([2, 2, 2]),
+    },
+    Row {
+        before: &[0, 0, 0],
+        lines: &[b"FETCH\r"],
+        after: &[],
+        chosen: Chosen::Packet,
+        asked: Cursors([1, 2, 3]),
+    },
+    Row {
+        before: &[0, 0],
+        lines: &[b"DATA 0\r"],
+        after: &[0, 0],
+        chosen: Chosen::Packet,
+        asked: Cursors([1, 3, 4]),
+    },
+    Row {
+        before: &[0, 0],
+        lines: &[b"SELECT BHN\r", b"FETCH\r"],
+        after: &[],
+        chosen: Chosen::Packet,
+        asked: Cursors([0, 2, 2]),
+    },
+    // What is found is what is chosen.
+    Row {
+        before: &[],
+        lines: &[b"DATA\r"],
+        after: &[],
+        chosen: Chosen::Nothing,
+        asked: Found(false),
+    },
+    Row {
+        before: &[],
+        lines: &[b"DATA\r"],
+        after: &[1],
+        chosen: Chosen::Nothing,
+        asked: Found(false),
+    },
+    Row {
+        before: &[],
+        lines: &[b"DATA\r"],
+        after: &[0],
+        chosen: Chosen::Packet,
+        asked: Found(true),
+    },
+    Row {
+        before: &[],
+        lines: &[b"SELECT BHE\r", b"DATA\r"],
+        after: &[0],
+        chosen: Chosen::Nothing,
+        asked: Found(false),
+    },
+    Row {
+        before: &[],
+        lines: &[b"FETCH\r"],
+        after: &[],
+        chosen: Chosen::Complete,
+        asked: Found(true),
+    },
 ];
 
-#[test]
-fn a_cursor_tells_how_far_a_request_has_come(rt: HostRuntime) -> Result<(), Fail> {
-    let config = Config::read(rt.alloc(), TWO_STATIONS)?;
-    for (lines, before, after, [started, chosen, last]) in CURSORS {
-        let mut rings = Rings::new(rt.alloc(), &config)?;
-        let given = cursors_of(rt.alloc(), &config, &mut rings, (lines, before, after))?;
-        let wanted = Cursors {
-            started: Some(started),
-            chosen: Some(chosen),
-            last: Some(last),
-        };
-        assert_eq!(rt; given, wanted);
+/// Whether that is chosen where nothing waits, and its bytes wait then.
+fn is_chosen(config: &Config, rings: &Rings, session: &mut Session, wanted: Chosen) -> bool
+    ensures { session.new.places ≡ session.old.places }
+{
+    if !session.waiting().is_empty() || choose(session, config, rings) != wanted {
+        return false;
     }
-    Ok(())
+    let count = match wanted {
+        Chosen::Nothing => 0,
+        Chosen::Packet => 520,
+        Chosen::Complete => 3,
+    };
+    session.waiting().len() == count
 }
 
-/// Whether a session in a transfer finds something, and what is chosen then.
-fn found_then_chosen(
-    alloc: Global,
-    config: &Config,
-    rings: &mut Rings,
-    (lines, arrivals): (&[&[u8]], &[usize]),
-) -> Result<Option<(bool, Chosen)>, AllocError> {
+/// Whether a client is handed what a row says.
+fn is_handed(config: &Config, rings: &mut Rings, session: &mut Session, row: &Row) -> bool
+    requires { HasPlaces config.now session.old }
+{
+    arrive(rings, row.before);
+    say_all(config, session, row.lines);
+    start_it(session, rings);
+    let started = first_cursor(session);
+    arrive(rings, row.after);
+    match row.asked {
+        Choice => is_chosen(config, rings, session, row.chosen),
+        Found(found) => {
+            session.waiting().is_empty()
+                && finds(session, rings) == found
+                && is_chosen(config, rings, session, row.chosen)
+        }
+        Cursors(stamps) => {
+            let is_chosen = is_chosen(config, rings, session, row.chosen);
+            let reached = first_cursor(session);
+            take(config, session);
+            take_all(config, rings, session);
+            is_chosen
+                && started == Some(stamps[0])
+                && reached == Some(stamps[1])
+                && first_cursor(session) == Some(stamps[2])
+        }
+    }
+}
+
+/// The same of new rings and a new client.
+fn is_right(alloc: Global, config: &Config, row: &Row) -> Result<bool, AllocError> {
+    let mut rings = Rings::new(alloc, config)?;
     let mut session = opened(alloc, config)?;
-    say_all(config, &mut session, lines);
-    start_it(&mut session, rings);
-    arrive(rings, arrivals);
-    if !session.waiting().is_empty() {
-        return Ok(None);
-    }
-    let found = finds(&mut session, rings);
-    if !session.waiting().is_empty() {
-        return Ok(None);
-    }
-    Ok(Some((found, choose(&mut session, config, rings))))
+    Ok(is_handed(config, &mut rings, &mut session, row))
 }
 
-/// The lines of a client, the stations of the arrivals once its transfer has started, whether something is found, and
-/// what is chosen.
-type FindingRow = (&'static [&'static [u8]], &'static [usize], (bool, Chosen));
-
-static FINDINGS: [FindingRow; 5] = [
-    (&[b"DATA\r"], &[], (false, Chosen::Nothing)),
-    (&[b"DATA\r"], &[1], (false, Chosen::Nothing)),
-    (&[b"DATA\r"], &[0], (true, Chosen::Packet)),
-    (
-        &[b"SELECT BHE\r", b"DATA\r"],
-        &[0],
-        (false, Chosen::Nothing),
-    ),
-    (&[b"FETCH\r"], &[], (true, Chosen::Complete)),
-];
-
 #[test]
-fn what_is_found_is_what_is_chosen(rt: HostRuntime) -> Result<(), Fail> {
+fn what_is_chosen_waits(rt: HostRuntime) -> Result<(), Fail> {
     let config = Config::read(rt.alloc(), TWO_STATIONS)?;
-    for (lines, arrivals, wanted) in FINDINGS {
-        let mut rings = Rings::new(rt.alloc(), &config)?;
-        let given = found_then_chosen(rt.alloc(), &config, &mut rings, (lines, arrivals))?;
-        assert!(rt; given == Some(wanted));
+    for (place, row) in ROWS.iter().enumerate() {
+        assert!(rt; is_right(rt.alloc(), &config, row)?, "in row {place}");
     }
     Ok(())
 }

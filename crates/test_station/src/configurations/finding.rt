@@ -1,4 +1,5 @@
 //! Stations that are found among many, of which some are hidden.
+use super::many;
 use catalog::{Config, View};
 use std::alloc::{AllocError, Global};
 use std::net::Ipv4Addr;
@@ -6,22 +7,6 @@ use std::test::Fail;
 
 /// How many stations there are.
 const COUNT: usize = 1024;
-
-/// A configuration in which two stations have each code, in two networks, and every third one is for another address.
-fn text_of(alloc: Global) -> Result<String, AllocError> {
-    let mut text = String::from_str(alloc, "title = \"Many\"\n")?;
-    for k in 0..COUNT {
-        let (code, network) = (k / 2, if k % 2 == 0 { "GE" } else { "XX" });
-        write!(
-            text,
-            "[[station]]\nnetwork = \"{network}\"\ncode = \"{code}\"\ndescription = \"\"\ncapacity = 1\n"
-        )?;
-        if k % 3 == 0 {
-            text.push_str("access = \"10.0.0.1\"\n")?;
-        }
-    }
-    Ok(text)
-}
 
 /// What is found of a code in each of the two networks, and without one.
 fn found(
@@ -57,7 +42,7 @@ fn wanted(code: usize) -> [Option<usize>; 3] {
 
 /// The first code of which something else is found; of 512 and those after it there is no station.
 fn found_otherwise(alloc: Global) -> Result<Option<usize>, Fail> {
-    let text = text_of(alloc)?;
+    let text = many(alloc, COUNT)?;
     let config = Config::read(alloc, text.as_bytes())?;
     let view = config.view(alloc, Ipv4Addr::new(172, 16, 0, 9))?;
     for code in 0..514 {

@@ -1,89 +1,52 @@
 //! Keys that are missing, and keys with values of another kind.
-use super::{Judged, judged_otherwise, read};
-use catalog::ConfigFault;
+use super::Text::{Line, Whole};
+use super::{Judged, LIMIT, MISSING};
 
-/// Keys, lines in place of theirs, and what is said of these.
-static KINDS: [Judged; 24] = [
+pub static ROWS: [Judged; 30] = [
     // Keys that have to be there, and others.
-    ("title", "", Err(ConfigFault::Missing)),
-    ("network", "", Err(ConfigFault::Missing)),
-    ("code", "", Err(ConfigFault::Missing)),
-    ("description", "", Err(ConfigFault::Missing)),
-    ("capacity", "", Err(ConfigFault::Missing)),
-    ("access", "", Ok(())),
-    ("max_connections", "", Ok(())),
-    ("first", "", Ok(())),
-    ("own access", "", Ok(())),
+    (Line("title", ""), MISSING),
+    (Line("network", ""), MISSING),
+    (Line("code", ""), MISSING),
+    (Line("description", ""), MISSING),
+    (Line("capacity", ""), MISSING),
+    (Line("access", ""), Ok(())),
+    (Line("max_connections", ""), Ok(())),
+    (Line("first", ""), Ok(())),
+    (Line("own access", ""), Ok(())),
     // Texts and numbers of another kind.
-    ("title", "title = 1", Err(ConfigFault::Missing)),
+    (Line("title", "title = 1"), MISSING),
+    (Line("title", "title = [\"Test Centre\"]"), MISSING),
+    (Line("access", "access = true"), MISSING),
+    (Line("access", "access = [\"10.0.0.0/8\"]"), MISSING),
+    (Line("network", "network = 6"), MISSING),
+    (Line("code", "code = 1.5"), MISSING),
+    (Line("description", "description = 2024-02-29"), MISSING),
+    (Line("first", "first = 0"), MISSING),
+    (Line("own access", "access = 10"), MISSING),
     (
-        "title",
-        "title = [\"Test Centre\"]",
-        Err(ConfigFault::Missing),
+        Line("own access", "access = { address = \"10.0.0.0\" }"),
+        MISSING,
     ),
-    ("access", "access = true", Err(ConfigFault::Missing)),
+    (Line("max_connections", "max_connections = \"8\""), MISSING),
+    (Line("max_connections", "max_connections = 8.0"), MISSING),
+    (Line("capacity", "capacity = \"4\""), MISSING),
+    (Line("capacity", "capacity = 4.0"), MISSING),
+    (Line("capacity", "capacity = true"), MISSING),
+    // Stations are tables.
+    (Whole(b"title = \"Test Centre\"\n"), MISSING),
+    (Whole(b"title = \"t\"\nstation = \"GE\"\n"), MISSING),
+    (Whole(b"title = \"t\"\nstation = [1]\n"), MISSING),
     (
-        "access",
-        "access = [\"10.0.0.0/8\"]",
-        Err(ConfigFault::Missing),
-    ),
-    ("network", "network = 6", Err(ConfigFault::Missing)),
-    ("code", "code = 1.5", Err(ConfigFault::Missing)),
-    (
-        "description",
-        "description = 2024-02-29",
-        Err(ConfigFault::Missing),
-    ),
-    ("first", "first = 0", Err(ConfigFault::Missing)),
-    ("own access", "access = 10", Err(ConfigFault::Missing)),
-    (
-        "own access",
-        "access = { address = \"10.0.0.0\" }",
-        Err(ConfigFault::Missing),
-    ),
-    (
-        "max_connections",
-        "max_connections = \"8\"",
-        Err(ConfigFault::Missing),
-    ),
-    (
-        "max_connections",
-        "max_connections = 8.0",
-        Err(ConfigFault::Missing),
-    ),
-    ("capacity", "capacity = \"4\"", Err(ConfigFault::Missing)),
-    ("capacity", "capacity = 4.0", Err(ConfigFault::Missing)),
-    ("capacity", "capacity = true", Err(ConfigFault::Missing)),
-];
-
-#[test]
-fn values_have_their_kinds(rt: HostRuntime) {
-    assert!(rt; judged_otherwise(rt.alloc(), &KINDS).is_none());
-}
-
-/// Texts, and why they are no configuration.
-static STATIONS: [(&[u8], ConfigFault); 6] = [
-    (b"title = \"Test Centre\"\n", ConfigFault::Missing),
-    (b"title = \"t\"\nstation = \"GE\"\n", ConfigFault::Missing),
-    (b"title = \"t\"\nstation = [1]\n", ConfigFault::Missing),
-    (
-        b"title = \"t\"\n[station]\nnetwork = \"GE\"\n",
-        ConfigFault::Missing,
+        Whole(b"title = \"t\"\n[station]\nnetwork = \"GE\"\n"),
+        MISSING,
     ),
     // An element that is no table is told before what another element has.
     (
-        b"title = \"t\"\nstation = [{ network = \"\" }, 1]\n",
-        ConfigFault::Missing,
+        Whole(b"title = \"t\"\nstation = [{ network = \"\" }, 1]\n"),
+        MISSING,
     ),
     (
-        b"title = \"t\"\nstation = [{ network = \"\" }]\n",
-        ConfigFault::Limit,
+        Whole(b"title = \"t\"\nstation = [{ network = \"\" }]\n"),
+        LIMIT,
     ),
 ];
-
-#[test]
-fn stations_are_tables(rt: HostRuntime) {
-    for (row, &(text, fault)) in STATIONS.iter().enumerate() {
-        assert!(rt; read(rt.alloc(), text) == Err(fault), "in row {row}");
-    }
-}
