@@ -1,11 +1,10 @@
 //! Which clients an offer may find something for: those of a crowd who ask for a record's station; and what is found
 //! once bytes were handed.
-use catalog::Config;
+use crate::clients::{asking, at_server, record_in};
 use server_core::{Client, Offer, Server};
 use std::alloc::Global;
 use std::net::Ipv4Addr;
 use std::test::Fail;
-use test_centre::{CENTRE, RecordOf, made};
 
 /// A transfer of GE WLF from now on.
 const FOREST: &[u8] = b"STATION WLF GE\rDATA\rEND\r";
@@ -13,50 +12,9 @@ const FOREST: &[u8] = b"STATION WLF GE\rDATA\rEND\r";
 /// A transfer of XX APE from now on, of one channel.
 const VAULT: &[u8] = b"STATION APE XX\rSELECT BHZ\rDATA\rEND\r";
 
-/// A record of GE WLF that starts in a second of 2024-02-29.
-fn record_in(second: u8) -> Result<[u8; 512], Fail> {
-    Ok(made(&RecordOf {
-        second,
-        ..RecordOf::station(b"GE", b"WLF")
-    })?)
-}
-
-/// What is seen at a new server of the three stations.
-fn at_server<T, F>(alloc: Global, look: F) -> Result<T, Fail>
-where
-    F: FnOnce(&mut Server, Global) -> Result<T, Fail>,
-    requires { F.IsAlwaysCallable look }
-{
-    let mut server = Server::new(alloc, Config::read(alloc, CENTRE)?)?;
-    look(&mut server, alloc)
-}
-
-/// What waits for a client is taken.
-fn take_waiting(server: &mut Server, client: &Client) {
-    let Ok(bytes) = server.waiting(client) else {
-        return;
-    };
-    let count = bytes.len();
-    if count > 0 {
-        let _ = server.took(client, count);
-    }
-}
-
 /// A client from an address that does not see GE APE, which sent a text, and took all that it is handed for it.
 fn settled(server: &mut Server, alloc: Global, text: &[u8]) -> Result<Client, Fail> {
-    let client = server.open(alloc, Ipv4Addr::new(172, 16, 0, 9))?;
-    server.receive(&client, text)?;
-    for _ in 0..20 {
-        if server.offer(&client)? == Offer::Bytes {
-            take_waiting(server, &client);
-        }
-    }
-    Ok(client)
-}
-
-/// Whether a client is marked, and whether it is ready.
-fn states(server: &mut Server, client: &Client) -> Result<(bool, bool), Fail> {
-    Ok((server.marked(client)?, server.ready(client)?))
+    asking(server, alloc, Ipv4Addr::new(172, 16, 0, 9), text, 20)
 }
 
 /// How many bytes wait for a client.
@@ -83,8 +41,8 @@ fn gone_on(server: &mut Server, client: &Client, count: usize) -> Result<(Offer,
 /// the second one's. The last is whether it is marked then.
 fn found_going_on(server: &mut Server, alloc: Global) -> Result<([(Offer, usize); 3], bool), Fail> {
     let client = settled(server, alloc, FOREST)?;
-    server.arrive(&record_in(0)?)?;
-    server.arrive(&record_in(1)?)?;
+    server.arrive(&record_in(b"WLF", 0)?)?;
+    server.arrive(&record_in(b"WLF", 1)?)?;
     let _found = server.offer(&client)?;
     let half = gone_on(server, &client, 260)?;
     let rest = gone_on(server, &client, 260)?;
@@ -117,7 +75,7 @@ fn crowd(server: &mut Server, alloc: Global) -> Result<Vec<Client>, Fail> {
 fn are_ready_by_turns(server: &mut Server, clients: &[Client], first: usize) -> Result<bool, Fail> {
     for (place, client) in clients.iter().enumerate() {
         let is_of_those = place % 2 == first;
-        if states(server, client)? != (is_of_those, is_of_those) {
+        if server.marked(client)? != is_of_those || server.ready(client)? != is_of_those {
             return Ok(false);
         }
     }
@@ -127,7 +85,7 @@ fn are_ready_by_turns(server: &mut Server, clients: &[Client], first: usize) -> 
 /// Whether a record of GE WLF marks those of a crowd who wait for it, and no one else.
 fn marks_one_half(server: &mut Server, alloc: Global) -> Result<bool, Fail> {
     let clients = crowd(server, alloc)?;
-    server.arrive(&record_in(0)?)?;
+    server.arrive(&record_in(b"WLF", 0)?)?;
     are_ready_by_turns(server, clients.as_slice(), 0)
 }
 

@@ -94,7 +94,12 @@ fn is_same(handed: &Handed, given: &Given) -> bool {
 }
 
 fn are_same(handed: &[Handed], given: &[Given]) -> bool {
-    handed.len() == given.len() && handed.iter().zip(given).all(|(a, b)| is_same(a, b))
+    for (handed, given) in handed.iter().zip(given) {
+        if !is_same(handed, given) {
+            return false;
+        }
+    }
+    handed.len() == given.len()
 }
 
 /// Whether both servers hand the same over some steps.

@@ -97,11 +97,12 @@ fn close_one(draws: &mut Draws, server: &mut Server, plain: &mut Plain) -> bool 
 
 /// Whether the server has exactly the clients that are open.
 fn has_all(server: &Server, plain: &Plain) -> bool {
-    plain
-        .clients
-        .iter()
-        .zip(plain.open.iter())
-        .all(|(client, open)| server.room(client).is_ok() == *open)
+    for (client, open) in plain.clients.iter().zip(plain.open.iter()) {
+        if server.room(client).is_ok() != *open {
+            return false;
+        }
+    }
+    true
 }
 
 /// A client opens or closes by chance. Whether the server says of it what the plain list says.

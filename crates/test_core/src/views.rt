@@ -97,24 +97,30 @@ fn drawn_address(draws: &mut Draws) -> Ipv4Addr {
     Ipv4Addr::from_octets(octets)
 }
 
-/// What stands in a line after its second space.
-fn list_in(line: &[u8]) -> &[u8] {
-    let mut rest = line;
-    for _ in 0..2 {
-        match rest.iter().position(|byte| *byte == b' ') {
-            Some(at) => rest = rest.get(at.saturating_add(1)..).unwrap_or(&[]),
-            None => return &[],
+/// What stands before the first of a byte, and what comes after it.
+fn cut(text: &[u8], at: u8) -> Option<(&[u8], &[u8])> {
+    for (place, byte) in text.iter().enumerate() {
+        if *byte == at {
+            return Some((text.get(..place)?, text.get(place.saturating_add(1)..)?));
         }
     }
-    rest
+    None
+}
+
+/// What stands in a line after its second space.
+fn list_in(line: &[u8]) -> Option<&[u8]> {
+    let (_, rest) = cut(line, b' ')?;
+    let (_, list) = cut(rest, b' ')?;
+    Some(list)
 }
 
 /// Whether the list of a line admits an address.
 fn admits(alloc: Global, line: &[u8], address: Ipv4Addr) -> Result<bool, Fail> {
     match list_in(line) {
-        b"-" => Ok(true),
-        b"nobody" => Ok(false),
-        list => Ok(AccessList::parse(alloc, list)?.allows(address)),
+        Some(b"-") => Ok(true),
+        Some(b"nobody") => Ok(false),
+        Some(list) => Ok(AccessList::parse(alloc, list)?.allows(address)),
+        None => Err(Fail::from("a line has no list")),
     }
 }
 
@@ -125,11 +131,12 @@ fn lists_decide(
     lines: &[u8],
     address: Ipv4Addr,
 ) -> Result<bool, Fail> {
-    let mut left = lines.split(|byte| *byte == b'\n');
+    let mut left = lines;
     for (place, _) in config.stations().iter().enumerate() {
-        let Some(line) = left.next() else {
+        let Some((line, rest)) = cut(left, b'\n') else {
             return Ok(false);
         };
+        left = rest;
         if config.sees(place, address) != admits(alloc, line, address)? {
             return Ok(false);
         }
