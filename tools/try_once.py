@@ -7,8 +7,9 @@ Records come to a server without a pause, each with an identity in its samples. 
 file (`--output`), both with a state. At random moments a reader is ended by KILL or TERM and started again; in the second half
 the server is too. At the end each record is counted by its identity: none may stand there twice, and while the server is not
 stopped none may be missing. Of what a server was fed up to its stop only the last records may be missing, which it alone held: a
-reader is handed them in order, so none is missing before one that was written. It needs the built program (./seedlinkd --build, or PATH), uses loopback alone, and takes
-about a second a stop.
+reader is handed them in order, so none is missing before one that was written. It needs the built program (./seedlinkd --build, or
+PATH), uses loopback alone, and takes about a second for each of N stops (200). A program that is slow to start, as one that was built
+with checks, may miss more of what short-lived servers held.
 """
 
 import argparse
@@ -148,7 +149,7 @@ def tell(name, counts, fed, begins):
 
 def main():
     words = argparse.ArgumentParser(description="Stops readers and servers at random moments, and counts their records.")
-    words.add_argument("--stops", type=int, default=60)
+    words.add_argument("--stops", type=int, default=200)
     words.add_argument("--program", default=None)
     words.add_argument("--seed", type=int, default=None)
     options = words.parse_args()
