@@ -1,3 +1,2 @@
-pub mod Guests
 pub mod Made
 pub mod Records

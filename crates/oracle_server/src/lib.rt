@@ -3,16 +3,14 @@
 #![tactic(auto)]
 
 pub mod draws;
-pub mod history;
+mod history;
 pub mod lines;
-pub mod many;
-pub mod moments;
-pub mod patterns;
+mod moments;
+mod patterns;
 pub mod plain;
 pub mod records;
-pub mod reloads;
 pub mod sites;
-pub mod visitor;
-pub mod words;
+mod visitor;
+mod words;
 
 pub use plain::Plain;

@@ -179,7 +179,7 @@ pub fn end(draws: &mut Draws, out: &mut Vec<u8>) -> Result<(), AllocError> {
 }
 
 /// So many SELECTs of one pattern, and one of another. With 64 of them these are at most 800 bytes.
-pub fn patterns(draws: &mut Draws, count: usize, out: &mut Vec<u8>) -> Result<(), AllocError> {
+fn patterns(draws: &mut Draws, count: usize, out: &mut Vec<u8>) -> Result<(), AllocError> {
     let channel = draws.text(&CHANNELS);
     for _ in 0..count {
         out.extend_from_slice(b"SELECT ")?;
@@ -190,18 +190,8 @@ pub fn patterns(draws: &mut Draws, count: usize, out: &mut Vec<u8>) -> Result<()
     put(draws, [b"SELECT", other, b""], out)
 }
 
-/// A SELECT that removes the patterns.
-pub fn no_patterns(draws: &mut Draws, out: &mut Vec<u8>) -> Result<(), AllocError> {
-    put(draws, [b"SELECT", b"", b""], out)
-}
-
-/// A station by its code and network.
-pub fn named(draws: &mut Draws, site: &Site, out: &mut Vec<u8>) -> Result<(), AllocError> {
-    put(draws, [b"STATION", site.code, site.network], out)
-}
-
 /// What is wanted of a station.
-pub fn wanted(draws: &mut Draws, out: &mut Vec<u8>) -> Result<(), AllocError> {
+fn wanted(draws: &mut Draws, out: &mut Vec<u8>) -> Result<(), AllocError> {
     let asked = action(draws);
     put(draws, asked, out)
 }

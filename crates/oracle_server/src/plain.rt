@@ -1,7 +1,6 @@
 //! The plain server: all clients over one history.
 use crate::history::History;
 use crate::records::Arrival;
-use crate::reloads::Reload;
 use crate::sites::{Centre, Seen};
 use crate::visitor::Visitor;
 use std::alloc::{AllocError, Global};
@@ -20,7 +19,7 @@ pub struct Plain {
     alloc: Global,
     title: &'static [u8],
     history: History,
-    /// Who may use the stations by the lists in force.
+    /// Who may use the stations.
     seen: Seen,
     visitors: Vec<Visitor>,
 }
@@ -31,7 +30,7 @@ impl Plain {
             alloc,
             title: centre.title,
             history: History::new(alloc, centre.sites),
-            seen: centre.seen(),
+            seen: centre.seen,
             visitors: Vec::new(alloc),
         }
     }
@@ -75,14 +74,6 @@ impl Plain {
         }
     }
 
-    /// How many stations a client has named, and how many patterns these have together.
-    pub fn named(&self, client: usize) -> (usize, usize) {
-        match self.visitors.get(client) {
-            Some(visitor) => (visitor.stations(), visitor.together()),
-            None => (0, 0),
-        }
-    }
-
     pub fn close(&mut self, client: usize) {
         if let Some(visitor) = self.visitors.get_mut(client) {
             visitor.close();
@@ -92,19 +83,5 @@ impl Plain {
     /// A record comes. Whether it is a station's.
     pub fn arrive(&mut self, arrival: &Arrival) -> Result<bool, AllocError> {
         self.history.add(arrival)
-    }
-
-    /// A configuration is read again. One that differs in more than its lists changes nothing. Else each client that
-    /// sees something else by it than when it came is cut.
-    pub fn reload(&mut self, reload: &Reload) {
-        let Some(seen) = reload.seen else {
-            return;
-        };
-        self.seen = seen;
-        for visitor in self.visitors.as_mut_slice() {
-            if visitor.would_see_other(seen) {
-                visitor.cut();
-            }
-        }
     }
 }

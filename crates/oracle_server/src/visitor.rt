@@ -121,15 +121,6 @@ impl Visitor {
         self.listing.clear();
     }
 
-    /// What waits is still handed. What it sent is forgotten, and nothing else comes to wait.
-    pub fn cut(&mut self) {
-        if !matches!(self.stage, Stage::Closed) {
-            self.stage = Stage::Over;
-        }
-        self.unread.clear();
-        self.listing.clear();
-    }
-
     fn answer(&mut self, parts: &[&[u8]]) -> Result<(), AllocError> {
         self.answers.push_back(line_of(self.alloc, parts)?)?;
         Ok(())
@@ -151,17 +142,6 @@ impl Visitor {
 
     fn sees(&self, site: usize) -> bool {
         may_use(self.seen, site, self.address)
-    }
-
-    /// Whether it would see another list of stations if it came now.
-    pub fn would_see_other(&self, seen: Seen) -> bool {
-        let mut is_other = false;
-        for site in 0..seen.len() {
-            if may_use(seen, site, self.address) != self.sees(site) {
-                is_other = true;
-            }
-        }
-        is_other
     }
 
     fn list(&mut self, history: &History) -> Result<(), AllocError> {
@@ -208,13 +188,8 @@ impl Visitor {
         None
     }
 
-    /// How many stations were named.
-    pub fn stations(&self) -> usize {
-        self.requests.len()
-    }
-
     /// How many patterns the stations that were named have together.
-    pub fn together(&self) -> usize {
+    fn together(&self) -> usize {
         let mut count: usize = 0;
         for request in self.requests.as_slice() {
             count = count.saturating_add(request.patterns.len());

@@ -5,8 +5,6 @@
 #![tactic(auto)]
 
 mod standard;
-#[cfg(test)]
-mod tests;
 
 use jobs::{Failure, failed, obey, told};
 use standard::fill_closed;

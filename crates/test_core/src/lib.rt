@@ -1,5 +1,5 @@
-//! Tests of the whole core: marks of a crowd, what is listed of random configurations, and random lists of events,
-//! records and clients, at the server and at small plain programs that share no code with it. Nothing but tests.
+//! Tests of the whole core that look inside it: marks of a crowd, what one call fills, and slots that are used again.
+//! Nothing but tests.
 #![tactic(auto)]
 
 #[cfg(test)]
@@ -9,10 +9,4 @@ mod fills;
 #[cfg(test)]
 mod marks;
 #[cfg(test)]
-mod random;
-#[cfg(test)]
-mod random_records;
-#[cfg(test)]
 mod slots;
-#[cfg(test)]
-mod views;
