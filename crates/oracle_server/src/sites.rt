@@ -172,13 +172,12 @@ access = "172.16.0.9/255.255.255.255, 192.168.0.0/16"
         },
     ],
     seen: &[
-                [false, false, false],
-                [true, false, true],
-                [true, true, true],
-                [false, true, true],
-            ],
+        [false, false, false],
+        [true, false, true],
+        [true, true, true],
+        [false, true, true],
+    ],
 };
-
 
 /// The configuration of a short list.
 pub fn centre_of(list: u64) -> Centre {
