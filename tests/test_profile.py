@@ -218,6 +218,17 @@ class Explained(kit.Test):
             text = text.replace(real, shown)
         self.assertTrue(is_as(text.splitlines(), wanted), "%s\nis printed, and the page has\n%s" % (text, "\n".join(wanted)))
 
+    def test_a_who_of_view_that_is_no_address_and_no_file(self):
+        kit.write("island.toml", ISLAND)
+        ended = self.run_program("-v", "view", "island.toml", "10.0.0.300")
+        self.assertEqual(ended.said.splitlines(), [
+            "seedlinkd: 44 File",
+            "  cause: a word is no address and no network, and there is no such file",
+            "  file: 10.0.0.300",
+            "  reason: No such file or directory (os error 2)",
+            "  allowed: an address as 10.0.0.7, a network as 10.0.0.0/8, or the file of another configuration",
+        ])
+
     def reread(self):
         """What a server says whose configuration gets another capacity."""
         server = self.serve(ISLAND, "--reread", "5", "-v")
