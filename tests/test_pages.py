@@ -74,6 +74,15 @@ def missing_files(page):
             yield "%s: there is no %s" % (page, path)
 
 
+def scripts_that_are_gone():
+    """Scripts named try_ in a text of the tree that are not in tools."""
+    texts = found("tools/*", "bench/*", "tests/*", "examples/*", "examples/*/*", "seedlinkd", ".ci/run")
+    for path in pages() + [it for it in texts if os.path.isfile(os.path.join(kit.TREE, it)) and not it.endswith(".mseed")]:
+        for name in re.findall(r"\btry_\w+\.(?:sh|py)\b", text_of(path)):
+            if not is_there("tools/" + name):
+                yield "%s: there is no tools/%s" % (path, name)
+
+
 def wrong_crate_page(name, below, own):
     """What the page of a crate has otherwise than it should."""
     page = "crates/%s/README.md" % name
@@ -133,6 +142,7 @@ class Pages(kit.Test):
 
     def test_files_that_pages_name_are_there(self):
         self.assert_none(it for page in pages() for it in missing_files(page))
+        self.assert_none(scripts_that_are_gone())
 
     def test_each_crate_has_a_page_that_says_what_it_stands_on(self):
         own = crates()
