@@ -24,7 +24,9 @@ import time
 from concurrent.futures import FIRST_COMPLETED, ThreadPoolExecutor, wait
 
 TOP = os.path.dirname(os.path.dirname(os.path.realpath(__file__)))
-MEMORY_OF_A_BUILD = 5 << 30
+MEMORY = os.sysconf("SC_PAGE_SIZE") * os.sysconf("SC_PHYS_PAGES")
+MEMORY_OF_A_BUILD = 3 << 30  # what a crate takes at most with two jobs, but for the following
+LARGE = dict.fromkeys(("protocol", "incidents", "job_base", "job_check", "job_feed", "job_read", "job_serve"), 4 << 30)
 PROCESSORS = len(os.sched_getaffinity(0))
 USUAL = 40 * 60 * 4 / PROCESSORS  # seconds that the whole program takes, as it is known before anything is done
 TRUSTED = 60  # seconds for which that counts as much as what was seen since
@@ -163,7 +165,7 @@ class Progress:
 
     def __init__(self, names):
         with open(f"{TOP}/tools/proving_seconds.txt", encoding="utf-8") as table:
-            known = dict(line.split() for line in table if not line.startswith("#"))
+            known = dict(line.split()[:2] for line in table if not line.startswith("#"))
         self.seconds = {it: int(known.get(it, 60)) for it in names}
         self.usual_speed = sum(map(int, known.values())) / USUAL
         self.began = time.monotonic()
@@ -191,15 +193,23 @@ class Progress:
         self.done.add(name)
 
 
+def that_fit(ready, running):
+    """The first of some crates that have a processor and memory beside those that are being built; one at least, if none is."""
+    fitting = []
+    for name in ready[: PROCESSORS - len(running)]:
+        if sum(LARGE.get(it, MEMORY_OF_A_BUILD) for it in [*running, *fitting, name]) <= MEMORY or not running and not fitting:
+            fitting.append(name)
+    return fitting
+
+
 def build_all(needs, lines, progress):
     """Builds crates, each once those below it are built, first those with the heaviest chain above them. Says whether all were built."""
-    lanes = max(1, min(PROCESSORS, os.sysconf("SC_PAGE_SIZE") * os.sysconf("SC_PHYS_PAGES") // MEMORY_OF_A_BUILD))
     heaviest = chains(needs)
     left, running = sorted(needs, key=lambda it: -heaviest[it]), {}
-    with ThreadPoolExecutor(lanes) as pool:
+    with ThreadPoolExecutor(PROCESSORS) as pool:
         try:
             while left or running:
-                ready = [it for it in left if progress.done.issuperset(needs[it])][: lanes - len(running)]
+                ready = that_fit([it for it in left if progress.done.issuperset(needs[it])], [*running.values()])
                 for name in ready:
                     jobs = max(2, PROCESSORS // (len(running) + len(ready)))
                     progress.begins(name)
