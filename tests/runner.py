@@ -82,6 +82,7 @@ def work():
             {
                 "wrong": wrong[0] if wrong else None,
                 "skipped": skipped[0] if skipped and not wrong else None,
+                "notes": getattr(test, "notes", []),
                 "wall": time.monotonic() - begun,
                 "processor": processor_seconds() - used,
             },
@@ -157,7 +158,7 @@ def run_side_by_side(jobs, count, environment, tell, is_wanted=lambda job: True)
         worker.end()
         worker.errors.seek(0)
         said = worker.errors.read().decode("utf-8", "replace")[-2000:]
-        tell(worker.job, {"wrong": why + "\n" + said, "skipped": None, "wall": worker.job["limit"], "processor": 0})
+        tell(worker.job, {"wrong": why + "\n" + said, "skipped": None, "notes": [], "wall": worker.job["limit"], "processor": 0})
 
     try:
         while waiting or workers:
@@ -361,6 +362,8 @@ def run_right(chosen, program, options):
     def tell(job, result):
         counts["processor"] += result["processor"]
         seconds.append((result["wall"], result["processor"], job["shown"]))
+        for note in result["notes"]:
+            print("note: %s" % note, flush=True)
         if result["wrong"]:
             counts["failed"] += 1
             again = ["tests/run", job["shown"], "--program", program] + ["--all"] * job["is_slow"]

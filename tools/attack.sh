@@ -2,6 +2,7 @@
 # Tries the edits of attack/NAME: the prover has to refuse each. (The gate tries those of crates/NAME/must-fail.)
 #
 #     tools/attack.sh [NAME..]
+#     tools/attack.sh --old
 #
 # A NAME is a crate; without one all edits are tried, in a copy of the working tree in which they stand in must-fail, by
 # `rt must-fail`. As many crates are tried side by side as JOBS says, or else as there are processors, if each has 5 GiB of memory.
@@ -9,7 +10,8 @@
 #
 # A crate whose edits were all refused has a line in attack/refused.txt, which this script writes: its name, the number of its edits, and
 # a sum of all that they stand on. It is tried again once something of that has changed, so a run that was stopped goes on, also on
-# another machine. To try all anew, remove the lines.
+# another machine. To try all anew, remove the lines. With --old it tries nothing, and prints the names of the crates whose lines are
+# older than what their edits stand on.
 #
 # The copy and the logs stay in the folder ATTACK_FOLDER, or else in one below ${TMPDIR:-/tmp}, named for the path of this repository.
 set -u
@@ -18,6 +20,43 @@ fail() {
     echo "attack: $1" >&2
     exit 2
 }
+
+command -v rt >/dev/null || fail "rt is not on the path"
+logic=$(rt version | sed -n 's/.* logic \([0-9a-f]*\).*/\1/p')
+# The crates whose edits were all refused: a name, how many edits it has, and the sum, a line each.
+record=$top/attack/refused.txt
+
+# A sum of all that a crate's edits stand on: the toolchain's logic, the edits, and the files and crates.txt's lines of the crate and of
+# those below it. `tree` has them, and `files` the sum of each file there.
+sum_of() {
+    local lines
+    lines=$(awk -F: -v top="$1" '!/^#/ && NF { name[++n] = $1; uses[n] = $2; line[n] = $0 }
+        END { is[top] = 1
+            for (; n; n--) if (is[name[n]]) { print line[n]; k = split(uses[n], below, " "); for (; k; k--) is[below[k]] = 1 } }' "$tree/crates.txt")
+    {
+        printf '%s\n' "$logic" "$lines"
+        cat "$tree/HANDLES"
+        cut -d: -f1 <<<"$lines" | while read -r it; do grep -E " crates/$it/(src|specs|proofs)/" <<<"$files"; done
+        grep " crates/$1/must-fail/" <<<"$files"
+    } | sha256sum | cut -d' ' -f1
+}
+# The files below some folders that git does not ignore, but for the edits of the gate.
+sources() {
+    git ls-files -z --cached --others --exclude-standard -- "$@" ':(exclude)crates/*/must-fail/*' |
+        while IFS= read -r -d '' it; do [ ! -f "$it" ] || printf '%s\0' "$it"; done
+}
+
+# What the copy of a run would have: the edits of attack are those of must-fail there.
+if [ "$*" = --old ]; then
+    cd "$top" || exit 2
+    tree=$top
+    files=$({
+        sources crates | xargs -0 sha256sum
+        sha256sum attack/*/*.edit | sed -E 's|  attack/([^/]*)/|  crates/\1/must-fail/|'
+    } | LC_ALL=C sort -k 2)
+    while read -r name _ sum; do [ "$sum" = "$(sum_of "$name")" ] || echo "$name"; done <"$record"
+    exit
+fi
 
 room=$(realpath -m -- "${ATTACK_FOLDER:-${TMPDIR:-/tmp}/attack-$(printf %s "$top" | sha256sum | cut -c 1-12)}")
 case $room/ in "$top"/*) fail "the copy has to be outside of the repository, and not in $room" ;; esac
@@ -46,8 +85,7 @@ jobs=${JOBS:-$((most > 1 ? most : 1))}
 # proved in the copy stays, unless a library was proved here later: then that is taken.
 update() {
     (cd "$copy" && for it in * .[!.]* crates/*/*; do case $it in crates | crates/*/out) ;; *) rm -rf -- "$it" ;; esac; done)
-    git ls-files -z --cached --others --exclude-standard -- . ':(exclude)crates/*/must-fail/*' |
-        while IFS= read -r -d '' it; do [ ! -f "$it" ] || printf '%s\0' "$it"; done | xargs -0 cp --parents -t "$copy" -- || return 1
+    sources . | xargs -0 cp --parents -t "$copy" -- || return 1
     for name in "${names[@]}"; do
         mkdir -p "$copy/crates/$name/must-fail" && cp "attack/$name"/*.edit "$copy/crates/$name/must-fail" || return 1
     done
@@ -61,23 +99,6 @@ update() {
     done
 }
 
-# A sum of all that a crate's edits stand on: the toolchain, the edits, and the files and crates.txt's lines of the crate and of
-# those below it.
-sum_of() {
-    local lines
-    lines=$(awk -F: -v top="$1" '!/^#/ && NF { name[++n] = $1; uses[n] = $2; line[n] = $0 }
-        END { is[top] = 1
-            for (; n; n--) if (is[name[n]]) { print line[n]; k = split(uses[n], below, " "); for (; k; k--) is[below[k]] = 1 } }' "$copy/crates.txt")
-    {
-        printf '%s\n' "$toolchain" "$lines"
-        cat "$copy/HANDLES"
-        cut -d: -f1 <<<"$lines" | while read -r it; do grep -E " crates/$it/(src|specs|proofs)/" <<<"$files"; done
-        grep " crates/$1/must-fail/" <<<"$files"
-    } | sha256sum | cut -d' ' -f1
-}
-
-# The crates whose edits were all refused: a name, how many edits it has, and the sum, a line each.
-record=$top/attack/refused.txt
 # Writes the line of a crate.
 note() {
     { grep -sv "^$1 " "$record"; echo "$1 $2 ${sums[$1]}"; } | LC_ALL=C sort >"$record.new" && mv "$record.new" "$record"
@@ -105,10 +126,9 @@ counts() {
 
 # ---- which crates are left to try, first those that take longest
 
-command -v rt >/dev/null || fail "rt is not on the path"
 update || fail "the copy in $copy could not be made"
 echo "attack: the copy and the logs are in $room" >&2
-toolchain=$(rt version)
+tree=$copy
 files=$(cd "$copy" && find crates -path 'crates/*/out' -prune -o -type f -print | LC_ALL=C sort | xargs sha256sum)
 declare -A sums
 left=()

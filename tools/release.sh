@@ -4,8 +4,9 @@
 #
 #     tools/release.sh VERSION
 #
-# The working tree has to be clean, and VERSION that of the sources and the first one in CHANGELOG.md. The gate has to pass: it is run
-# here, which takes over what passed on this machine before, and leaves the program that is released.
+# The working tree has to be clean, VERSION that of the sources and the first one in CHANGELOG.md, and no line of attack/refused.txt
+# older than what it stands on. The gate has to pass: it is run here, which takes over what passed on this machine before, and leaves
+# the program that is released.
 set -eu
 top=$(cd "$(dirname "$(readlink -f "$0")")/.." && pwd)
 cd "$top"
@@ -20,6 +21,8 @@ version=$(sed -n 's/^pub const VERSION: &str = "\([^ ]*\) .*";$/\1/p' crates/com
 [ "$1" = "$version" ] || fail "the version of the sources is $version (VERSION in crates/command_line/src/commands.rt)"
 [ "$1" = "$(sed -n 's/^## //p' CHANGELOG.md | head -n 1)" ] || fail "the first version in CHANGELOG.md is another one"
 is_clean || fail "the working tree is not clean: git status says what was changed"
+old=$(tools/attack.sh --old) || fail "attack/refused.txt could not be compared with the sources"
+[ -z "$old" ] || fail "lines of attack/refused.txt are older than their files; tools/attack.sh tries these crates again: $(echo $old)"
 commit=$(git rev-parse HEAD)
 rt ci || fail "the gate did not pass"
 
