@@ -1,10 +1,10 @@
 #!/usr/bin/env python3
-"""Records of stations GE S00, GE S01 .., for tools/try_many_servers.sh.
+"""Records of stations GE S00, GE S01 .., for test_many_servers.py.
 
-    tools/many_records.py config STATIONS COUNT        a configuration of so many stations, each of which holds so many records
-    tools/many_records.py make STATIONS COUNT RATE     so many records of each of these stations, by turns, so many a second
-    tools/many_records.py wants STATIONS LINES         the wants with which a reader goes on after the lines of `seedlinkd read`
-    tools/many_records.py check STATIONS COUNT LINES   whether the lines have each record of each station once, in order, by number
+    tests/many_records.py config STATIONS COUNT        a configuration of so many stations, each of which holds so many records
+    tests/many_records.py make STATIONS COUNT RATE     so many records of each of these stations, by turns, so many a second
+    tests/many_records.py wants STATIONS LINES         the wants with which a reader goes on after the lines of `seedlinkd read`
+    tests/many_records.py check STATIONS COUNT LINES   whether the lines have each record of each station once, in order, by number
 
 STATIONS is a range, as 0-49.
 """

@@ -1,0 +1,140 @@
+"""Readers with a state add each record once, however often they and their server are killed or ended at random moments.
+
+With TRIED_STOPS=N in the environment the slow test makes N stops in place of 200; TRIED_SEED=N repeats one.
+"""
+
+import collections
+import contextlib
+import os
+import random
+import signal
+import socket
+import threading
+import time
+
+import kit
+
+STOPS = int(os.environ.get("TRIED_STOPS", "200"))
+STATIONS, CHANNELS = ("APE", "WLF", "KBS"), ("BHZ", "BHN", "LHE")
+CONFIG = 'title = "Once"\n' + "".join(
+    '[[station]]\nnetwork = "GE"\ncode = "%s"\ndescription = "open"\ncapacity = 16384\n' % it for it in STATIONS
+)
+
+
+def record(number):
+    """The record that is fed as the `number`-th: of one of nine streams, and of one of two days."""
+    start = (2024, 60 + number // 5 % 2, number // 3600 % 24, number // 60 % 60, number % 60, 0)
+    return kit.record(number, STATIONS[number % 3], CHANNELS[number // 3 % 3], start=start)
+
+
+class Feeder(threading.Thread):
+    """Feeds records to whatever listens at a port, a few at a time, until it is over."""
+
+    def __init__(self, port, first, chance):
+        super().__init__(daemon=True)
+        self.port, self.fed, self.chance, self.is_over = port, first, chance, False
+        # The first record that was sent over each connection; there is one for each server, or more.
+        self.begins = []
+
+    def run(self):
+        connection = None
+        while not self.is_over:
+            try:
+                if connection is None:
+                    connection = socket.create_connection((kit.HERE, self.port), timeout=5)
+                    self.begins.append(self.fed)
+                first = self.fed
+                self.fed += self.chance.randint(1, 16)
+                connection.sendall(b"".join(map(record, range(first, self.fed))))
+            except OSError:
+                connection = None
+            time.sleep(self.chance.random() * 0.05)
+        if connection:
+            connection.close()
+
+    def finish(self):
+        self.is_over = True
+        self.join()
+
+
+def counted(folder):
+    """How often each record stands in the files of an archive, or in the one file of an output."""
+    paths = [folder] if os.path.isfile(folder) else []
+    for place, _, names in os.walk(folder):
+        paths += [os.path.join(place, it) for it in names if not it.startswith(".") and not it.endswith(".torn")]
+    return collections.Counter(it for path in paths for it in kit.identities_in(path))
+
+
+class Once(kit.Test):
+    KINDS = ("archive", "output")
+
+    def stop_and_start(self, stops, seed):
+        """Stops readers half of the times, and then the server too."""
+        self.note("once: TRIED_SEED=%d" % seed) if stops == STOPS else None
+        chance = random.Random(seed)
+        self.server = self.serve(CONFIG, "--numbers", "numbers")
+        self.readers = {it: self.read_into(it) for it in self.KINDS}
+        first = Feeder(self.server.feeds, 0, random.Random(seed + 1))
+        first.start()
+        for _ in range(stops // 2):
+            time.sleep(chance.random())
+            self.restart(chance.choice(self.KINDS), chance)
+        first.finish()
+        for it in self.KINDS:
+            self.await_all(it, range(first.fed))
+        again = Feeder(self.server.feeds, first.fed, random.Random(seed + 2))
+        again.start()
+        for _ in range(stops - stops // 2):
+            time.sleep(chance.random() * 2)
+            self.restart(chance.choice(("server",) + self.KINDS * 2), chance)
+        self.server.await_said("seedlinkd: feed ")
+        enough = again.fed + 50
+        kit.until(lambda: again.fed >= enough, "records that the last server is fed")
+        again.finish()
+        for it in self.KINDS:
+            self.await_all(it, range(again.begins[-1], again.fed))
+            self.assert_last_ones_are_missing(it, first.begins + again.begins, again.fed)
+
+    def read_into(self, kind):
+        wants = ["GE_%s@000000" % it for it in STATIONS]
+        return self.reader(self.server, *wants, "--retry", "1", "--" + kind, kind, "--state", kind + ".state")
+
+    def restart(self, what, chance):
+        how = chance.choice((signal.SIGKILL, signal.SIGTERM))
+        (self.server if what == "server" else self.readers[what]).end(how)
+        time.sleep(chance.random() * 0.2)
+        if what == "server":
+            self.server = self.keep(self.server.again("--numbers", "numbers"))
+        else:
+            self.readers[what] = self.read_into(what)
+
+    def await_all(self, kind, wanted):
+        """Waits until these records are there, each record once."""
+
+        def missing():
+            with contextlib.suppress(OSError, AssertionError):
+                counts = counted(kind)
+                doubled = [it for it in counts if counts[it] > 1]
+                self.doubled = doubled
+                return [it for it in wanted if it not in counts]
+            return list(wanted)
+
+        kit.until(lambda: not missing(), lambda: "%s: %d records, of which %s.. are missing; %s" % (
+            kind, len(wanted), missing()[:9], self.readers[kind].said()[-300:]), 60)
+        self.assertEqual(self.doubled[:9], [], kind)
+
+    def assert_last_ones_are_missing(self, kind, begins, fed):
+        """Of what was sent over a connection to a server that was stopped, the last ones may be missing, which it alone had."""
+        counts = counted(kind)
+        for first, end in zip(begins, begins[1:] + [fed]):
+            lost = [it for it in range(first, end) if it not in counts]
+            self.assertEqual(lost, list(range(end - len(lost), end)), "%s: records from %d to %d" % (kind, first, end))
+
+    @kit.limit(60)
+    def test_a_few_stops(self):
+        self.stop_and_start(8, 93)
+
+    @kit.slow
+    @kit.limit(120 + 3 * STOPS)
+    def test_many_stops(self):
+        self.stop_and_start(STOPS, int(os.environ.get("TRIED_SEED", random.randrange(1_000_000))))
