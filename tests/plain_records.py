@@ -113,7 +113,8 @@ def made(network, station, location="", channel="BHZ", kind="D", start=(2024, 60
     samples = usual if samples is None else samples
     codes = b"%-5b%-2b%-3b%-2b" % tuple(it.encode() for it in (station, location, channel, network))
     header = b"000001D " + codes + struct.pack(">HHBBBBH", year, day, hour, minute, second, 0, fraction)
-    header += struct.pack(">HhhBBBBIHH", samples, factor, 1, 0, 0, 0, 1 + bool(extra), 0, 64, 48)
+    # Without samples there is no place of the first one.
+    header += struct.pack(">HhhBBBBIHH", samples, factor, 1, 0, 0, 0, 1 + bool(extra), 0, 64 if samples else 0, 48)
     header += struct.pack(">HHBBBB", 1000, 56 if extra else 0, 11, 1, 9, 0) + (struct.pack(">HH", extra, 0) if extra else b"")
     return (header.ljust(64, b"\0") + contents).ljust(512, b"\0")
 
