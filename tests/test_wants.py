@@ -2,6 +2,7 @@
 send what they are told to send."""
 
 import contextlib
+import resource
 import signal
 import socket
 
@@ -255,6 +256,21 @@ class Kept(scripted.Test):
         ended = self.read("--state", "state", "--archive", "sds")
         self.assertEqual((ended.status, ended.said), (1, "seedlinkd: 53 State\n"))
         self.assertEqual(kit.records_in("sds/" + DAY), [ONE, TWO])
+
+    def test_an_output_that_takes_no_more(self):
+        """A file has a limit of 700 bytes: the first record is there."""
+
+        def prepare():
+            signal.signal(signal.SIGXFSZ, signal.SIG_IGN)
+            resource.setrlimit(resource.RLIMIT_FSIZE, (700, 700))
+
+        server = self.serve()
+        server.feed(ONE, TWO)
+        for words, path in (("--output out", "out"), ("--archive sds", "sds/" + DAY)):
+            ended = self.reader(server, "-v", "GE_APE", "--fetch", *words.split(), prepare=prepare).await_end()
+            self.assertEqual((ended.status, ended.said), (
+                1, "seedlinkd: 43 Write\n  cause: not everything could be written\n  file: %s\n  reason: File too large (os error 27)\n" % path))
+            self.assertEqual(kit.bytes_of(path)[:512], ONE)
 
     def test_a_state_and_an_archive_go_on(self):
         kit.write("state", "GE APE 000000 17091648000100\nXX OLD 0000A3 -\n")
