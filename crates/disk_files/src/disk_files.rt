@@ -9,7 +9,7 @@ use std::alloc::Global;
 use std::fs::{self, File, Metadata, OpenOptions};
 use std::io::{self, ErrorKind};
 use std::num::NonZeroUsize;
-use std::rt::{Clock, Files};
+use std::rt::Clock;
 
 /// After how many milliseconds a file is closed to which nothing was added.
 const IDLE: u64 = 60_000;
@@ -35,8 +35,8 @@ pub struct FileFailure {
 /// Files of records on the disk, which no others write to meanwhile. Up to some number are kept open, and one that was
 /// not used for long is let go for another.
 #[derive(Drop)]
-pub struct DiskFiles<'a, R: Files<File = File>> {
-    rt: &'a R,
+pub struct DiskFiles<'a> {
+    rt: &'a HostRuntime,
     alloc: Global,
     place: FilePlace<'a>,
     opened: OpenFiles,
@@ -60,7 +60,7 @@ fn no_memory() -> io::Error {
 }
 
 /// Milliseconds of the system's clock; 0 where it can't be read.
-fn milliseconds<R: Clock>(rt: &R) -> u64 {
+fn milliseconds(rt: &HostRuntime) -> u64 {
     match rt.monotonic() {
         Ok(now) => u64::try_from(now.as_millis()).unwrap_or(u64::MAX),
         Err(_) => 0,
@@ -69,7 +69,7 @@ fn milliseconds<R: Clock>(rt: &R) -> u64 {
 
 /// What the system says of a file: none if it is not there. One that is no plain file is refused, and not opened: a
 /// pipe would wait for a reader.
-fn plain_at<R: Files>(rt: &R, path: &str) -> io::Result<Option<Metadata>> {
+fn plain_at(rt: &HostRuntime, path: &str) -> io::Result<Option<Metadata>> {
     match fs::metadata(rt, path) {
         Ok(found) if found.is_file() => Ok(Some(found)),
         Ok(_) => Err(io::Error::from(ErrorKind::InvalidInput)),
@@ -79,7 +79,7 @@ fn plain_at<R: Files>(rt: &R, path: &str) -> io::Result<Option<Metadata>> {
 }
 
 /// A file to which is added and from which is read, which is made if it is not there.
-fn opened_at<R: Files>(rt: &R, path: &str) -> io::Result<R::File> {
+fn opened_at(rt: &HostRuntime, path: &str) -> io::Result<File> {
     OpenOptions::new()
         .read(true)
         .append(true)
@@ -97,7 +97,7 @@ fn folder_of(path: &str) -> Option<&str> {
 }
 
 /// The same, in a folder that is made if it is not there.
-fn made_at<R: Files>(rt: &R, path: &str) -> io::Result<R::File> {
+fn made_at(rt: &HostRuntime, path: &str) -> io::Result<File> {
     match (opened_at(rt, path), folder_of(path)) {
         (Err(reason), Some(folder)) if reason.kind() == ErrorKind::NotFound => {
             fs::create_dir_all(rt, folder)?;
@@ -109,7 +109,7 @@ fn made_at<R: Files>(rt: &R, path: &str) -> io::Result<R::File> {
 
 /// Has the system put the folder of a new file on the disk. What fails is passed over, since some systems don't do it
 /// for folders.
-fn sync_folder<R: Files<File = File>>(rt: &R, path: &str) {
+fn sync_folder(rt: &HostRuntime, path: &str) {
     if let Ok(folder) = fs::open(rt, folder_of(path).unwrap_or(".")) {
         let _ = folder.sync_all();
     }
@@ -120,16 +120,16 @@ fn is_full(reason: &io::Error) -> bool {
     matches!(reason.raw_os_error(), Some(23 | 24))
 }
 
-impl<'a, R: Files<File = File> + Clock> DiskFiles<'a, R> {
+impl<'a> DiskFiles<'a> {
     /// Files at a place, of which so many are kept open at most. If they are to last, each sync puts on the disk what
     /// was added; else the system does that when it likes.
     pub fn new(
-        rt: &'a R,
+        rt: &'a HostRuntime,
         alloc: Global,
         place: FilePlace<'a>,
         most: NonZeroUsize,
         lasts: bool,
-    ) -> DiskFiles<'a, R> {
+    ) -> DiskFiles<'a> {
         DiskFiles {
             rt,
             alloc,
@@ -416,7 +416,7 @@ impl<'a, R: Files<File = File> + Clock> DiskFiles<'a, R> {
     }
 }
 
-impl<'a, R: Files<File = File> + Clock> RecordFiles for DiskFiles<'a, R> {
+impl RecordFiles for DiskFiles<'_> {
     ghost records = { λ _ _. None };
 
     ghost safe = { λ _ _. None };

@@ -5,8 +5,6 @@ ghost use Rattle.continued_files.specs.Puts.{StandsAfter};
 
 use crate::disk_files::{DiskFiles, FileFailure};
 use continued_files::{ContinuedFiles, FileLength, FolderFault, RecordFiles};
-use std::fs::File;
-use std::rt::{Clock, Files};
 
 /// The name of the one file.
 pub const ONE_FILE: &str = "-";
@@ -50,7 +48,7 @@ impl<F: RecordFiles> ContinuedOutput<F> {
     }
 }
 
-impl<'a, R: Files<File = File> + Clock> ContinuedOutput<DiskFiles<'a, R>> {
+impl ContinuedOutput<DiskFiles<'_>> {
     /// Records of another piece come next. It is looked then whether the path still names the file.
     pub fn begin(&mut self) {
         self.files.files_mut().begin();

@@ -7,7 +7,7 @@ use arrayvec::ArrayString;
 use itoa::Buffer;
 use libc::net as c;
 use libc::types::pollfd;
-use std::fs::OpenOptions;
+use std::fs::{File, OpenOptions};
 use std::os::fd::{AsRawFd, RawFd};
 use std::rt::Files;
 
@@ -17,11 +17,11 @@ const PIECE: usize = 512;
 
 /// How lines go to standard error.
 #[derive(Drop)]
-enum Way<F> {
+enum Way {
     /// To a file, which takes all there is room for on its disk.
     File,
     /// To a second opening of the same pipe or terminal, which alone does not wait.
-    Reopened(F),
+    Reopened(File),
     /// To a socket, where each call says that it does not wait.
     Socket,
     /// To anything else: it is asked first whether it has room.
@@ -34,9 +34,9 @@ enum Way<F> {
 /// Something that is none of them, or that can't be opened again, is asked whether it has room, and given at most 512
 /// bytes then. It can make the program wait only if somebody else fills it in between.
 #[derive(Drop)]
-pub struct StandardError<F> {
+pub struct StandardError {
     descriptor: RawFd,
-    way: Way<F>,
+    way: Way,
 }
 
 /// What poll says of a descriptor at this moment.
@@ -73,10 +73,7 @@ fn path_of(descriptor: RawFd) -> ArrayString<64> {
 }
 
 /// The same pipe or terminal, opened a second time so that writes to it don't wait. None if that can't be done.
-fn reopen<R: Files>(rt: &R, descriptor: RawFd) -> Option<R::File>
-where
-    R::File: AsRawFd,
-{
+fn reopen(rt: &HostRuntime, descriptor: RawFd) -> Option<File> {
     let path = path_of(descriptor);
     let file = OpenOptions::new()
         .append(true)
@@ -89,7 +86,7 @@ where
     }
 }
 
-fn is_file<R: Files>(rt: &R, descriptor: RawFd) -> bool {
+fn is_file(rt: &HostRuntime, descriptor: RawFd) -> bool {
     let path = path_of(descriptor);
     match rt.metadata(path.as_str()) {
         Ok(metadata) => metadata.is_file(),
@@ -97,10 +94,7 @@ fn is_file<R: Files>(rt: &R, descriptor: RawFd) -> bool {
     }
 }
 
-fn way_of<R: Files>(rt: &R, descriptor: RawFd) -> Way<R::File>
-where
-    R::File: AsRawFd,
-{
+fn way_of(rt: &HostRuntime, descriptor: RawFd) -> Way {
     if is_broken(descriptor) {
         return Way::Asked;
     }
@@ -116,20 +110,14 @@ where
     }
 }
 
-impl<F> StandardError<F> {
+impl StandardError {
     /// Standard error of this process. It waits for nobody.
-    pub fn open<R: Files<File = F>>(rt: &R) -> StandardError<F>
-    where
-        F: AsRawFd,
-    {
+    pub fn open(rt: &HostRuntime) -> StandardError {
         StandardError::of(rt, libc::STDERR_FILENO)
     }
 
     /// What another descriptor of this process leads to, in the same manner. It has to stay open.
-    pub fn of<R: Files<File = F>>(rt: &R, descriptor: RawFd) -> StandardError<F>
-    where
-        F: AsRawFd,
-    {
+    pub fn of(rt: &HostRuntime, descriptor: RawFd) -> StandardError {
         StandardError {
             descriptor,
             way: way_of(rt, descriptor),
@@ -137,7 +125,7 @@ impl<F> StandardError<F> {
     }
 }
 
-impl<F: AsRawFd> Device for StandardError<F> {
+impl Device for StandardError {
     ghost taken = { λ _. None };
 
     fn accept(&mut self, bytes: &[u8]) -> usize

@@ -7,7 +7,6 @@ use Rattle.feeder.specs.Sending.{send_reason}
 use Rattle.sl_time.specs.Parsed.{time_reason}
 use Rattle.slreader.specs.Faults.{reader_reason}
 use Rattle.reader_run.specs.Faults.{listing_reason}
-use Rattle.serving.specs.Faults.{serve_reason}
 use Rattle.ports_socket.specs.Faults.{listen_reason}
 use Rattle.sl_io.specs.Faults.{stream_reason}
 use Rattle.record_check.specs.Listing.{file_reason}
@@ -42,8 +41,6 @@ failure_reason failure.Who = reason.File
 failure_reason failure.Station = reason.UnknownStation
 failure_reason (failure.Listen fault) = listen_reason fault
 failure_reason failure.Connect = reason.Connect
-failure_reason (failure.Reload fault) = reason.Different
-failure_reason (failure.Serve fault) = serve_reason fault
 failure_reason (failure.Send fault) = send_reason fault
 failure_reason failure.Untaken = reason.Write
 failure_reason failure.Answered = reason.BadReply

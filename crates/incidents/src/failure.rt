@@ -9,8 +9,6 @@ use ports_socket::ListenFault;
 use protocol::reason::Reason;
 use reader_run::ListingFault;
 use record_check::FileFault;
-use server_core::ReloadFault;
-use serving::ServeFault;
 use sl_io::StreamFault;
 use sl_time::TimeFault;
 use slreader::ReaderFault;
@@ -43,10 +41,6 @@ pub enum Failure {
     Listen(ListenFault),
     /// No connection to the server could be made.
     Connect,
-    /// A configuration that was read again differs in more than its access lists.
-    Reload(ReloadFault),
-    /// The server ended before its turns were done.
-    Serve(ServeFault),
     /// Not all of a feed was sent.
     Send(SendFault),
     /// The server ended a feed before it had read everything.
@@ -71,7 +65,7 @@ pub enum Failure {
     Numbers(NumbersFault),
     /// The state of an earlier reader was not read.
     State(StateRefusal),
-    /// What the sentence of its reason says, and no more, as that a file could not be opened.
+    /// What the sentence of its reason says, and no more, as that a file could not be opened, or why a server ended.
     Of(Reason),
     /// What a status port answered was not taken.
     Status(StatusFault),
@@ -95,8 +89,6 @@ impl Failure {
             Failure::Station => Reason::UnknownStation,
             Failure::Listen(fault) => fault.reason(),
             Failure::Connect => Reason::Connect,
-            Failure::Reload(fault) => fault.reason(),
-            Failure::Serve(fault) => fault.reason(),
             Failure::Send(fault) => fault.reason(),
             Failure::Untaken => Reason::Write,
             Failure::Answered => Reason::BadReply,

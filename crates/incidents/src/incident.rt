@@ -23,8 +23,8 @@ use access_list::{AccessFault, AccessList};
 use catalog::{ConfigError, ConfigFault};
 use config_explained::{ConfigFinding, Difference};
 use ports_socket::ListenError;
+use protocol::reason::Reason;
 use record_check::Finding;
-use server_core::ReloadFault;
 use slreader::{ReaderFault, Want, Window};
 use std::fmt::{self, Display, Formatter, Write};
 use std::io;
@@ -128,7 +128,7 @@ impl<'a> Incident<'a> {
             None => Site::File(path),
         };
         Incident {
-            failure: Failure::Reload(ReloadFault),
+            failure: Failure::Of(Reason::Different),
             site,
         }
     }

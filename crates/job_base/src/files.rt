@@ -6,22 +6,18 @@ use incidents::{Failure, Incident, Site};
 use protocol::reason::Reason;
 use sl_io::{Outer, ReadFault, read_all};
 use std::alloc::Global;
-use std::fs::OpenFile;
+use std::fs::File;
 use std::io::Write;
-use std::rt::Files;
 use std::{fs, io};
 
 /// The configuration in a file.
-pub fn config_at<'a, R: Files + AllocGlobal>(
-    rt: &R,
-    path: &'a str,
-) -> Result<Config, Incident<'a>> {
+pub fn config_at<'a>(rt: &HostRuntime, path: &'a str) -> Result<Config, Incident<'a>> {
     let text = text_at(rt, path)?;
     config_in(rt.alloc(), path, text.as_slice())
 }
 
 /// The text of a configuration's file.
-pub fn text_at<'a, R: Files + AllocGlobal>(rt: &R, path: &'a str) -> Result<Vec<u8>, Incident<'a>> {
+pub fn text_at<'a>(rt: &HostRuntime, path: &'a str) -> Result<Vec<u8>, Incident<'a>> {
     let mut file = Outer::new(ReasonKeeper::new(open(rt, path)?));
     match read_all(rt.alloc(), &mut file) {
         Ok(text) => Ok(text),
@@ -51,7 +47,7 @@ fn refused<'a>(alloc: Global, path: &'a str, text: &[u8], error: ConfigError) ->
 }
 
 /// A file that is opened to be read.
-pub fn open<'a, R: Files>(rt: &R, path: &'a str) -> Result<R::File, Incident<'a>> {
+pub fn open<'a>(rt: &HostRuntime, path: &'a str) -> Result<File, Incident<'a>> {
     match fs::open(rt, path) {
         Ok(file) => Ok(file),
         Err(reason) => Err(unopened(path, reason)),
@@ -71,7 +67,7 @@ pub fn unopened<'a>(path: &'a str, reason: io::Error) -> Incident<'a> {
 
 /// Writes a file under another name first, which takes the file's place once all of it is on the disk. Then its folder
 /// is put on the disk too, as far as the system does that for folders.
-pub fn replace<R: Files>(rt: &R, new_path: &str, path: &str, text: &[u8]) -> io::Result<()> {
+pub fn replace(rt: &HostRuntime, new_path: &str, path: &str, text: &[u8]) -> io::Result<()> {
     let mut file = fs::create(rt, new_path)?;
     file.write_all(text)?;
     file.sync_all()?;
@@ -81,7 +77,7 @@ pub fn replace<R: Files>(rt: &R, new_path: &str, path: &str, text: &[u8]) -> io:
 }
 
 /// Puts the folder of a file on the disk. What fails is passed over, since some systems don't do it for folders.
-fn sync_folder<R: Files>(rt: &R, path: &str) {
+fn sync_folder(rt: &HostRuntime, path: &str) {
     if let Ok(folder) = fs::open(rt, folder_of(path)) {
         let _ = folder.sync_all();
     }

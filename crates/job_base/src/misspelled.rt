@@ -12,7 +12,6 @@ use config_explained::unknown_keys;
 use incidents::{Failure, Incident};
 use shown_lines::ShownText;
 use std::alloc::Global;
-use std::rt::Files;
 
 /// The lines that name the keys of a configuration's text that are not known.
 pub fn unknown_lines<'a>(
@@ -43,7 +42,7 @@ pub fn refuse_unknown<'a>(path: &'a str, lines: &[u8], is_strict: bool) -> Resul
 }
 
 /// Writes lines to the standard error.
-fn tell_lines<R: Eprint>(rt: &R, lines: &[u8]) {
+fn tell_lines(rt: &HostRuntime, lines: &[u8]) {
     if let Ok(lines) = str::from_utf8(lines) {
         let _ = eprint!(rt; "{}", ShownText(lines));
     }
@@ -51,8 +50,8 @@ fn tell_lines<R: Eprint>(rt: &R, lines: &[u8]) {
 
 /// Names the keys of a configuration's text that are not known, a line each on the standard error. With `is_strict` it
 /// is refused if there are any.
-pub fn tell_unknown_keys<'a, R: Eprint + AllocGlobal>(
-    rt: &R,
+pub fn tell_unknown_keys<'a>(
+    rt: &HostRuntime,
     path: &'a str,
     config: &Config,
     text: &[u8],
@@ -67,8 +66,8 @@ pub fn tell_unknown_keys<'a, R: Eprint + AllocGlobal>(
 }
 
 /// The configuration in a file, whose unknown keys are named. With `is_strict` it is refused if there are any.
-pub fn checked_config_at<'a, R: Files + Eprint + AllocGlobal>(
-    rt: &R,
+pub fn checked_config_at<'a>(
+    rt: &HostRuntime,
     path: &'a str,
     is_strict: bool,
 ) -> Result<Config, Incident<'a>> {

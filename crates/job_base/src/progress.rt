@@ -78,17 +78,17 @@ impl Meter {
 /// Passes on what is read of a file of records, and shows on the standard error how far that is, at most ten times a
 /// second.
 #[derive(Drop)]
-pub struct Watched<'r, R, T> {
-    rt: &'r R,
+pub struct Watched<'r, T> {
+    rt: &'r HostRuntime,
     inner: T,
     size: Option<u64>,
     meter: Meter,
     is_shown: bool,
 }
 
-impl<'r, R: Eprint + Clock, T> Watched<'r, R, T> {
+impl<'r, T> Watched<'r, T> {
     /// What is read of `inner`, of which so many bytes can be read. It is shown only if `is_shown`.
-    pub fn new(rt: &'r R, inner: T, size: Option<u64>, is_shown: bool) -> Watched<'r, R, T> {
+    pub fn new(rt: &'r HostRuntime, inner: T, size: Option<u64>, is_shown: bool) -> Watched<'r, T> {
         Watched {
             rt,
             inner,
@@ -131,7 +131,7 @@ impl<'r, R: Eprint + Clock, T> Watched<'r, R, T> {
     }
 }
 
-impl<R: Eprint + Clock, T: Read> Read for Watched<'_, R, T> {
+impl<T: Read> Read for Watched<'_, T> {
     fn read(&mut self, block: &mut [u8]) -> io::Result<usize> {
         let count = self.inner.read(block)?;
         if self.is_shown {

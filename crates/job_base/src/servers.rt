@@ -6,7 +6,7 @@ ghost use Rattle.job_base.specs.Endpoints.{endpoint_of, endpoint_value};
 use crate::endpoint::Endpoint;
 use incidents::{Failure, Incident, Site};
 use std::io;
-use std::net::{Net, SocketAddr, TcpStream};
+use std::net::{SocketAddr, TcpStream};
 
 /// The address of a server, and the word that names it.
 #[derive(Clone, Copy)]
@@ -31,15 +31,15 @@ pub fn server_of<'a>(word: &'a str) -> Result<ServerAddress<'a>, Incident<'a>>
 }
 
 /// A connection to a server.
-pub fn connect<R: Net>(rt: &R, server: Endpoint) -> io::Result<R::Stream> {
+pub fn connect(rt: &HostRuntime, server: Endpoint) -> io::Result<TcpStream> {
     TcpStream::connect(rt, SocketAddr::V4(server.socket_address()))
 }
 
 /// A connection to a server that a word names.
-pub fn connection<'a, R: Net>(
-    rt: &R,
+pub fn connection<'a>(
+    rt: &HostRuntime,
     server: ServerAddress<'a>,
-) -> Result<R::Stream, Incident<'a>> {
+) -> Result<TcpStream, Incident<'a>> {
     match connect(rt, server.endpoint) {
         Ok(stream) => Ok(stream),
         Err(reason) => Err(unconnected(server, reason)),

@@ -4,17 +4,17 @@ use std::io::Write;
 
 /// Writes text to the standard error.
 #[derive(Drop)]
-pub struct ErrorOutput<'a, R> {
-    rt: &'a R,
+pub struct ErrorOutput<'a> {
+    rt: &'a HostRuntime,
 }
 
-impl<'a, R> ErrorOutput<'a, R> {
-    pub fn new(rt: &'a R) -> ErrorOutput<'a, R> {
+impl<'a> ErrorOutput<'a> {
+    pub fn new(rt: &'a HostRuntime) -> ErrorOutput<'a> {
         ErrorOutput { rt }
     }
 }
 
-impl<'a, R: Eprint> Write for ErrorOutput<'a, R> {
+impl Write for ErrorOutput<'_> {
     fn write(&mut self, bytes: &[u8]) -> io::Result<usize> {
         match str::from_utf8(bytes) {
             Ok(text) => {

@@ -2,7 +2,7 @@
 use incidents::{Incident, ToldIncident};
 
 /// Tells a failure in the line `seedlinkd: N Name`, and on request explains it in the lines after that.
-pub fn tell_incident<R: Eprint>(rt: &R, incident: Incident<'_>, is_verbose: bool) {
+pub fn tell_incident(rt: &HostRuntime, incident: Incident<'_>, is_verbose: bool) {
     let told = ToldIncident {
         incident: &incident,
         is_verbose,

@@ -14,7 +14,6 @@ use record_check::{AllStations, Finding, ListingOptions, RecordCheck, Stations};
 use sl_io::{Outer, StreamFault};
 use std::fs::File;
 use std::io::{self, Read};
-use std::rt::{Clock, Files};
 
 /// What a check lists, by the options of the command line.
 fn listing_options(options: CheckOptions<'_>) -> ListingOptions
@@ -35,8 +34,8 @@ fn listing_options(options: CheckOptions<'_>) -> ListingOptions
 /// It fails if in one of them a record is refused, or if one ends inside a record: with what is wrong with the first of
 /// these files, after all were listed. Of several files each one with which something is wrong has a line on the
 /// standard error. With a configuration, records of stations that it has not are refused too.
-pub fn check_files<'a, R: Files<File = File> + Print + Eprint + Clock + AllocGlobal>(
-    rt: &R,
+pub fn check_files<'a>(
+    rt: &HostRuntime,
     words: &[&'a str],
     options: CheckOptions<'a>,
 ) -> Result<(), Incident<'a>> {
@@ -47,8 +46,8 @@ pub fn check_files<'a, R: Files<File = File> + Print + Eprint + Clock + AllocGlo
 }
 
 /// The same, of files that may have records of the stations of the configuration in another one.
-fn check_by<'a, R: Files<File = File> + Print + Eprint + Clock + AllocGlobal>(
-    rt: &R,
+fn check_by<'a>(
+    rt: &HostRuntime,
     words: &[&'a str],
     options: CheckOptions<'a>,
     config: &'a str,
@@ -58,8 +57,8 @@ fn check_by<'a, R: Files<File = File> + Print + Eprint + Clock + AllocGlobal>(
 }
 
 /// The same, of files that may have records of these stations.
-fn check_named<'a, R: Files<File = File> + Print + Eprint + Clock + AllocGlobal, S: Stations>(
-    rt: &R,
+fn check_named<'a, S: Stations>(
+    rt: &HostRuntime,
     words: &[&'a str],
     options: CheckOptions<'a>,
     stations: &S,
@@ -84,8 +83,8 @@ fn first_of<'a>(first: Option<Incident<'a>>) -> Result<(), Incident<'a>> {
 }
 
 /// Lists the records of files, one after the other. Answers what is wrong with the first with which something is wrong.
-fn check_each<'a, R: Files<File = File> + Print + Eprint + Clock + AllocGlobal, S: Stations>(
-    rt: &R,
+fn check_each<'a, S: Stations>(
+    rt: &HostRuntime,
     names: Vec<FileName<'a>>,
     options: CheckOptions<'a>,
     stations: &S,
@@ -101,8 +100,8 @@ fn check_each<'a, R: Files<File = File> + Print + Eprint + Clock + AllocGlobal, 
 }
 
 /// Lists the records of a file. Answers what is wrong with it, and unless it is alone tells that as well.
-fn check_file<'a, R: Files<File = File> + Print + Eprint + Clock + AllocGlobal, S: Stations>(
-    rt: &R,
+fn check_file<'a, S: Stations>(
+    rt: &HostRuntime,
     name: FileName<'a>,
     options: CheckOptions<'a>,
     stations: &S,
@@ -131,7 +130,7 @@ fn check_file<'a, R: Files<File = File> + Print + Eprint + Clock + AllocGlobal, 
 }
 
 /// Tells that something is wrong with one of several files.
-fn tell_file<R: Eprint>(rt: &R, name: &FileName<'_>, finding: Finding) {
+fn tell_file(rt: &HostRuntime, name: &FileName<'_>, finding: Finding) {
     let line = FileLine { name, finding };
     let _ = eprintln!(rt; "{line}");
 }
@@ -156,8 +155,8 @@ struct Checked {
 
 /// Lists the records of a file that is open. How far it is is shown at a terminal, unless lines of records show it
 /// there.
-fn check_open<R: Print + Eprint + Clock + AllocGlobal, S: Stations>(
-    rt: &R,
+fn check_open<S: Stations>(
+    rt: &HostRuntime,
     options: CheckOptions<'_>,
     stations: &S,
     check: &mut RecordCheck,
@@ -177,8 +176,8 @@ fn check_open<R: Print + Eprint + Clock + AllocGlobal, S: Stations>(
 }
 
 /// Writes what is listed of a file's records to the standard output.
-fn list_file<R: Print, S: Stations, T: Read + Drop>(
-    rt: &R,
+fn list_file<S: Stations, T: Read + Drop>(
+    rt: &HostRuntime,
     options: ListingOptions,
     stations: &S,
     check: &mut RecordCheck,
@@ -190,8 +189,8 @@ fn list_file<R: Print, S: Stations, T: Read + Drop>(
 }
 
 /// Writes what is listed of the streams of all files to the standard output.
-fn list_streams<R: Print>(
-    rt: &R,
+fn list_streams(
+    rt: &HostRuntime,
     options: ListingOptions,
     check: &mut RecordCheck,
 ) -> Result<(), StreamFault> {

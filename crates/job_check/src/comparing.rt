@@ -14,7 +14,6 @@ use protocol::reason::Reason;
 use sl_io::{Outer, Sink, StreamFault};
 use std::alloc::Global;
 use std::io;
-use std::rt::Files;
 
 /// Writes what changes, and for whom, if a server that runs one configuration is given another, a line each. Each is
 /// that of its text.
@@ -52,8 +51,8 @@ fn write_difference<'a, W: Sink>(
 }
 
 /// Writes what changes, and explains the first difference for which a running server refuses the new configuration.
-fn write_all<'a, R: Print + AllocGlobal>(
-    rt: &R,
+fn write_all<'a>(
+    rt: &HostRuntime,
     old: &Config,
     old_text: &[u8],
     path: &'a str,
@@ -71,8 +70,8 @@ fn write_all<'a, R: Print + AllocGlobal>(
 
 /// Names the keys of the new configuration that are not known, for which it is refused with `is_strict`, and writes
 /// what it changes.
-fn compare<'a, R: Print + Eprint + AllocGlobal>(
-    rt: &R,
+fn compare<'a>(
+    rt: &HostRuntime,
     old: &Config,
     old_text: &[u8],
     path: &'a str,
@@ -103,8 +102,8 @@ fn unopened_who<'a>(incident: Incident<'a>) -> Incident<'a> {
 
 /// Writes what changes, and for whom, if a server that runs a configuration is given that in a file. Keys of that one
 /// that are not known are named on the standard error, and with `is_strict` it is refused for them.
-pub fn write_changes<'a, R: Files + Print + Eprint + AllocGlobal>(
-    rt: &R,
+pub fn write_changes<'a>(
+    rt: &HostRuntime,
     old: &Config,
     old_text: &[u8],
     path: &'a str,

@@ -1,7 +1,6 @@
 //! The files of a folder and of the folders in it.
 use std::alloc::Global;
 use std::fs::FileType;
-use std::rt::Files;
 use std::{fs, io};
 
 /// Folders that are not looked into yet, and files that were found.
@@ -29,7 +28,7 @@ fn is_passed_over(name: &str) -> bool {
 }
 
 /// Whether a path leads to a file, by a link too.
-fn is_file<R: Files>(rt: &R, path: &str) -> bool {
+fn is_file(rt: &HostRuntime, path: &str) -> bool {
     match fs::metadata(rt, path) {
         Ok(found) => found.is_file(),
         Err(_) => false,
@@ -38,8 +37,8 @@ fn is_file<R: Files>(rt: &R, path: &str) -> bool {
 
 /// Notes what stands in a folder under a path: a folder, a file, or a link to a file. A link to a folder is passed
 /// over, since it may lead back, and so is a pipe or a device.
-fn note<R: Files>(
-    rt: &R,
+fn note(
+    rt: &HostRuntime,
     alloc: Global,
     walk: &mut FolderWalk,
     path: &str,
@@ -54,11 +53,7 @@ fn note<R: Files>(
 }
 
 /// Notes all that stands in a folder and is not passed over.
-fn look_into<R: Files + AllocGlobal>(
-    rt: &R,
-    walk: &mut FolderWalk,
-    folder: &str,
-) -> io::Result<()> {
+fn look_into(rt: &HostRuntime, walk: &mut FolderWalk, folder: &str) -> io::Result<()> {
     for entry in fs::read_dir(&rt, folder)? {
         let entry = entry?;
         if !is_passed_over(entry.file_name()) {
@@ -70,10 +65,7 @@ fn look_into<R: Files + AllocGlobal>(
 }
 
 /// Looks into one folder after the other until there is no other one.
-fn look_into_all<R: Files + AllocGlobal>(
-    rt: &R,
-    walk: &mut FolderWalk,
-) -> Result<(), UnlistedFolder> {
+fn look_into_all(rt: &HostRuntime, walk: &mut FolderWalk) -> Result<(), UnlistedFolder> {
     'folders: for _ in 0..u64::MAX {
         let Some(path) = walk.folders.pop() else {
             return Ok(());
@@ -87,10 +79,7 @@ fn look_into_all<R: Files + AllocGlobal>(
 }
 
 /// The files of a folder and of all folders in it, in the order of their paths, but for those that are passed over.
-pub fn files_below<R: Files + AllocGlobal>(
-    rt: &R,
-    folder: String,
-) -> Result<Vec<String>, UnlistedFolder> {
+pub fn files_below(rt: &HostRuntime, folder: String) -> Result<Vec<String>, UnlistedFolder> {
     let alloc = rt.alloc();
     let mut walk = FolderWalk {
         folders: Vec::new(alloc),

@@ -8,7 +8,7 @@ use shown_lines::ShownLine;
 use sl_io::StreamFault;
 use std::alloc::{AllocError, Global};
 use std::fmt::{self, Display, Formatter, Write};
-use std::rt::Files;
+use std::fs::File;
 use std::{fs, io};
 
 /// The name of a file of records.
@@ -39,7 +39,7 @@ impl<'a> FileName<'a> {
     }
 
     /// Opens it.
-    pub fn open<R: Files>(&self, rt: &R) -> io::Result<R::File> {
+    pub fn open(&self, rt: &HostRuntime) -> io::Result<File> {
         fs::open(rt, self.path())
     }
 
@@ -135,8 +135,8 @@ fn add_files<'a>(names: &mut Vec<FileName<'a>>, files: Vec<String>) -> Result<()
 }
 
 /// The files of a folder and of those in it are added to some.
-fn add_folder<'a, R: Files + AllocGlobal>(
-    rt: &R,
+fn add_folder<'a>(
+    rt: &HostRuntime,
     names: &mut Vec<FileName<'a>>,
     folder: &'a str,
 ) -> Result<(), Incident<'a>> {
@@ -161,8 +161,8 @@ fn add_file<'a>(names: &mut Vec<FileName<'a>>, word: &'a str) -> Result<(), Inci
 }
 
 /// What a word names is added to some: a file, or the files of a folder. It fails if there is no such file.
-fn add_word<'a, R: Files + AllocGlobal>(
-    rt: &R,
+fn add_word<'a>(
+    rt: &HostRuntime,
     names: &mut Vec<FileName<'a>>,
     word: &'a str,
 ) -> Result<(), Incident<'a>> {
@@ -178,8 +178,8 @@ fn add_word<'a, R: Files + AllocGlobal>(
 
 /// The files that words name, in the order of the words: files, the standard input, and the files of folders in the
 /// order of their paths. It fails if a word names nothing, or a folder that can't be listed.
-pub fn files_of<'a, R: Files + AllocGlobal>(
-    rt: &R,
+pub fn files_of<'a>(
+    rt: &HostRuntime,
     words: &[&'a str],
 ) -> Result<Vec<FileName<'a>>, Incident<'a>> {
     let mut names = Vec::new(rt.alloc());

@@ -18,7 +18,6 @@ use server_core::{Event, Handed, run};
 use sl_io::{Outer, Sink, Source, StreamFault, read_all, write_all};
 use std::alloc::{AllocError, Global};
 use std::io::{self, Read};
-use std::rt::Files;
 
 /// How a replay writes what happens.
 #[derive(Clone, Copy, Drop)]
@@ -142,8 +141,8 @@ pub fn replay<R: Source, W: Sink>(
 }
 
 /// Replays a script, and writes its output to the standard output.
-fn write_output<R: Print + AllocGlobal, S: Source>(
-    rt: &R,
+fn write_output<S: Source>(
+    rt: &HostRuntime,
     style: ReplayStyle,
     config: Config,
     script: &mut S,
@@ -153,8 +152,8 @@ fn write_output<R: Print + AllocGlobal, S: Source>(
 }
 
 /// The same of a script in a file that is open.
-fn replay_open<'a, R: Print + AllocGlobal, F: Read + Drop>(
-    rt: &R,
+fn replay_open<'a, F: Read + Drop>(
+    rt: &HostRuntime,
     style: ReplayStyle,
     config: Config,
     script: &'a str,
@@ -171,8 +170,8 @@ fn replay_open<'a, R: Print + AllocGlobal, F: Read + Drop>(
 }
 
 /// Writes the output of a script. The configuration is judged before the script is opened.
-pub fn replay_files<'a, R: Files + Print + AllocGlobal>(
-    rt: &R,
+pub fn replay_files<'a>(
+    rt: &HostRuntime,
     style: ReplayStyle,
     config: &'a str,
     script: &'a str,

@@ -26,7 +26,6 @@ use sl_io::{Outer, Sink, StreamFault, write_all};
 use std::alloc::Global;
 use std::io;
 use std::net::Ipv4Addr;
-use std::rt::Files;
 
 /// Writes a text.
 pub(crate) fn write_text<W: Sink>(text: &[u8], out: &mut W) -> Result<(), StreamFault>
@@ -155,11 +154,7 @@ fn asked_in<'a>(options: &ViewOptions<'a>) -> ViewAsked<'a> {
 
 /// Names the entries of a configuration's lists that admit something else than their text looks like, a line each on
 /// the standard error.
-fn tell_remarks<R: Eprint + AllocGlobal>(
-    rt: &R,
-    config: &Config,
-    text: &[u8],
-) -> Result<(), StreamFault> {
+fn tell_remarks(rt: &HostRuntime, config: &Config, text: &[u8]) -> Result<(), StreamFault> {
     match remarks(rt.alloc(), config, text) {
         Ok(lines) => {
             if let Ok(lines) = str::from_utf8(lines.as_slice()) {
@@ -172,11 +167,7 @@ fn tell_remarks<R: Eprint + AllocGlobal>(
 }
 
 /// Writes all stations with whom they are open to, and then names what the lists don't look like.
-fn write_all_stations<R: Print + Eprint + AllocGlobal>(
-    rt: &R,
-    config: &Config,
-    text: &[u8],
-) -> Result<(), Failure> {
+fn write_all_stations(rt: &HostRuntime, config: &Config, text: &[u8]) -> Result<(), Failure> {
     let mut out = Outer::new(io::writer(rt));
     match list_holders(rt.alloc(), config, text, &mut out) {
         Ok(()) => match tell_remarks(rt, config, text) {
@@ -188,11 +179,7 @@ fn write_all_stations<R: Print + Eprint + AllocGlobal>(
 }
 
 /// Writes what an address sees.
-fn write_seen<R: Print + AllocGlobal>(
-    rt: &R,
-    config: &Config,
-    address: Ipv4Addr,
-) -> Result<(), Failure> {
+fn write_seen(rt: &HostRuntime, config: &Config, address: Ipv4Addr) -> Result<(), Failure> {
     let mut out = Outer::new(io::writer(rt));
     match list_seen(rt.alloc(), config, address, &mut out) {
         Ok(()) => Ok(()),
@@ -201,8 +188,8 @@ fn write_seen<R: Print + AllocGlobal>(
 }
 
 /// Writes how much of a network sees each station.
-fn write_parts<R: Print + AllocGlobal>(
-    rt: &R,
+fn write_parts(
+    rt: &HostRuntime,
     config: &Config,
     text: &[u8],
     network: Network,
@@ -215,8 +202,8 @@ fn write_parts<R: Print + AllocGlobal>(
 }
 
 /// Writes who may use the station that a word names, `NET_STA`. It fails if there is none.
-fn write_station<R: Print + AllocGlobal>(
-    rt: &R,
+fn write_station(
+    rt: &HostRuntime,
     config: &Config,
     text: &[u8],
     word: &str,
@@ -234,8 +221,8 @@ fn write_station<R: Print + AllocGlobal>(
 }
 
 /// Writes what is asked of a configuration.
-fn write_view<'a, R: Files + Print + Eprint + AllocGlobal>(
-    rt: &R,
+fn write_view<'a>(
+    rt: &HostRuntime,
     options: &ViewOptions<'a>,
     config: &Config,
     text: &[u8],
@@ -256,8 +243,8 @@ fn write_view<'a, R: Files + Print + Eprint + AllocGlobal>(
 
 /// Names the keys of a configuration that are not known, for which it is refused if the options are strict, and writes
 /// the view. If it is compared with another one, the keys of that are named instead.
-fn view_config<'a, R: Files + Print + Eprint + AllocGlobal>(
-    rt: &R,
+fn view_config<'a>(
+    rt: &HostRuntime,
     options: &ViewOptions<'a>,
     config: &Config,
     text: &[u8],
@@ -270,8 +257,8 @@ fn view_config<'a, R: Files + Print + Eprint + AllocGlobal>(
 }
 
 /// The same of the configuration that the text of a file spells.
-fn view_text<'a, R: Files + Print + Eprint + AllocGlobal>(
-    rt: &R,
+fn view_text<'a>(
+    rt: &HostRuntime,
     options: &ViewOptions<'a>,
     text: &[u8],
 ) -> Result<(), Incident<'a>> {
@@ -283,10 +270,7 @@ fn view_text<'a, R: Files + Print + Eprint + AllocGlobal>(
 /// use a station of it, or what another configuration changes, or all stations with whom they are open to. In the last
 /// case entries of lists that admit something else than they look like are named on the standard error. So are keys
 /// that are not known, and if the options are strict the configuration is refused for them.
-pub fn view_file<'a, R: Files + Print + Eprint + AllocGlobal>(
-    rt: &R,
-    options: ViewOptions<'a>,
-) -> Result<(), Incident<'a>> {
+pub fn view_file<'a>(rt: &HostRuntime, options: ViewOptions<'a>) -> Result<(), Incident<'a>> {
     let text = text_at(rt, options.config)?;
     view_text(rt, &options, text.as_slice())
 }

@@ -12,17 +12,16 @@ ghost use Rattle.job_feed.specs.Handing.{CountsBeginning, counted_part};
 
 use crate::feeding::{await_end, feed_records};
 use incidents::Failure;
-use job_base::{Endpoint, connect};
 use sl_io::{DeviceFault, Outer, Sink, Source};
-use std::io::{ErrorKind, Read, Write};
-use std::net::{Net, OpenStream, Shutdown};
+use std::io::{ErrorKind, Write};
+use std::net::{Shutdown, TcpStream};
 
 /// The length of a record, in bytes.
 const RECORD: u64 = 512;
 
 /// Whether a connection is over before this side has ended it: the server has ended its half, or the connection has
 /// failed.
-fn is_over<T: OpenStream>(stream: &T) -> bool {
+fn is_over(stream: &TcpStream) -> bool {
     if stream.set_nonblocking(true).is_err() {
         return true;
     }
@@ -36,19 +35,19 @@ fn is_over<T: OpenStream>(stream: &T) -> bool {
 /// Whether a connection of which both sides have ended their halves was closed in order: nothing that was sent was
 /// refused, and this side's end had come to the server before the server ended its own. Then the system has no peer of
 /// it any more.
-fn is_closed<T: OpenStream>(stream: &T) -> bool {
+fn is_closed(stream: &TcpStream) -> bool {
     matches!(stream.take_error(), Ok(None)) && stream.peer_addr().is_err()
 }
 
 /// A feed of which all records were sent, and whose sending half is shut.
 #[derive(Drop)]
-pub struct SentFeed<T> {
-    stream: T,
+pub struct SentFeed {
+    stream: TcpStream,
     /// How many records were sent.
     pub count: u64,
 }
 
-impl<T: OpenStream + Read + Drop> SentFeed<T> {
+impl SentFeed {
     /// Waits for the server's end. If it comes in order, the server has read everything: then the answer is how many
     /// records were sent. It fails with 43 if the connection was reset, or if the server ended it before it had read
     /// to the end, and with 52 if the server answered something.
@@ -110,7 +109,7 @@ impl<T: Write> Sink for Feed<T> {
     }
 }
 
-impl<T: OpenStream + Write + Drop> Feed<T> {
+impl<T: Write + Drop> Feed<T> {
     /// Before the first record.
     pub fn new(stream: T) -> Feed<T>
         ensures { result.taken ≡ 0 }
@@ -145,9 +144,11 @@ impl<T: OpenStream + Write + Drop> Feed<T> {
     {
         self.taken / RECORD
     }
+}
 
+impl Feed<TcpStream> {
     /// Shuts the sending half. It fails with 43 if the server ended the connection before.
-    pub fn shut(self) -> Result<SentFeed<T>, Failure>
+    pub fn shut(self) -> Result<SentFeed, Failure>
         ensures { IfOk result (λ sent. sent.count ≡ self.taken / 512) }
     {
         let count = self.records();
@@ -156,28 +157,5 @@ impl<T: OpenStream + Write + Drop> Feed<T> {
             return Err(Failure::Untaken);
         }
         Ok(SentFeed { stream, count })
-    }
-}
-
-/// Sends the whole records that are left of a reader over a connection, and shuts its sending half. It fails as
-/// `feed_records` does, and with 43 if the server ended the connection before.
-pub fn send_feed<T: OpenStream + Write + Drop, S: Source>(
-    stream: T,
-    records: &mut S,
-) -> Result<SentFeed<T>, Failure> {
-    let mut feed = Feed::new(stream);
-    feed.send(records)?;
-    feed.shut()
-}
-
-/// Connects to a server's feed port, sends the whole records that are left of a reader, and shuts the sending half.
-pub fn begin_feed<R: Net, S: Source>(
-    rt: &R,
-    server: Endpoint,
-    records: &mut S,
-) -> Result<SentFeed<R::Stream>, Failure> {
-    match connect(rt, server) {
-        Ok(stream) => send_feed(stream, records),
-        Err(_) => Err(Failure::Connect),
     }
 }

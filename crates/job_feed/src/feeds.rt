@@ -22,9 +22,8 @@ use job_base::{
 use record_check::{AllStations, FeedTally, Stations};
 use sl_io::{DeviceFault, Outer};
 use std::fs::File;
-use std::io::{self, Read};
-use std::net::{Net, OpenStream};
-use std::rt::{Clock, Files};
+use std::io::Read;
+use std::net::TcpStream;
 
 /// How the records of files are judged while they are sent.
 #[derive(Drop)]
@@ -74,7 +73,7 @@ impl<'a> FeedProgress<'a> {
 }
 
 /// A file of records, or the standard input if its name is `-`.
-fn input<'a, R: Files>(rt: &R, path: &'a str) -> Result<R::File, Incident<'a>> {
+fn input<'a>(rt: &HostRuntime, path: &'a str) -> Result<File, Incident<'a>> {
     match path {
         "-" => open(rt, "/dev/stdin"),
         _ => open(rt, path),
@@ -87,14 +86,9 @@ fn begin_at<T: Read>(records: &mut T, number: u64) -> Result<(), DeviceFault> {
 }
 
 /// Sends the records of a file that is open, from one of them on, and says how many records were sent by then.
-fn send_input<
-    'a,
-    R: Files<File = File> + Eprint + Clock + AllocGlobal,
-    T: OpenStream + io::Write + Drop,
-    S: Stations,
->(
-    rt: &R,
-    feed: &mut Feed<T>,
+fn send_input<'a, S: Stations>(
+    rt: &HostRuntime,
+    feed: &mut Feed<TcpStream>,
     rules: &FeedRules<'_, S>,
     progress: &mut FeedProgress<'a>,
     file: File,
@@ -146,14 +140,9 @@ fn given_up<'a>(tally: &FeedTally, file: &'a str, kind: Option<FileKind>) -> Inc
 }
 
 /// Sends the records of files, one file after the other.
-fn send_each<
-    'a,
-    R: Files<File = File> + Eprint + Clock + AllocGlobal,
-    T: OpenStream + io::Write + Drop,
-    S: Stations,
->(
-    rt: &R,
-    feed: &mut Feed<T>,
+fn send_each<'a, S: Stations>(
+    rt: &HostRuntime,
+    feed: &mut Feed<TcpStream>,
     rules: &FeedRules<'_, S>,
     progress: &mut FeedProgress<'a>,
     files: &[&'a str],
@@ -172,21 +161,16 @@ fn send_each<
 
 /// Sends the records of files over a connection, of which the first file is open, from one of its records on, and shuts
 /// its sending half.
-fn send_over<
-    'a,
-    R: Files<File = File> + Eprint + Clock + AllocGlobal,
-    T: OpenStream + io::Write + Drop,
-    S: Stations,
->(
-    rt: &R,
-    mut feed: Feed<T>,
+fn send_over<'a, S: Stations>(
+    rt: &HostRuntime,
+    mut feed: Feed<TcpStream>,
     rules: &FeedRules<'_, S>,
     progress: &mut FeedProgress<'a>,
     file: File,
     first: FileRecord<'a>,
     others: &[&'a str],
     server: &'a str,
-) -> Result<SentFeed<T>, Incident<'a>>
+) -> Result<SentFeed, Incident<'a>>
     ensures { IfOk result (λ feed. feed.count ≡ progress.new.sent.count) }
 {
     send_input(rt, &mut feed, rules, progress, file, first, server)?;
@@ -199,15 +183,15 @@ fn send_over<
 
 /// Connects to a server, sends it the records of files, of which the first is open, and shuts the sending half of the
 /// connection.
-fn send_open<'a, R: Files<File = File> + Eprint + Clock + Net + AllocGlobal, S: Stations>(
-    rt: &R,
+fn send_open<'a, S: Stations>(
+    rt: &HostRuntime,
     server: ServerAddress<'a>,
     file: File,
     first: FileRecord<'a>,
     others: &[&'a str],
     rules: &FeedRules<'_, S>,
     progress: &mut FeedProgress<'a>,
-) -> Result<SentFeed<R::Stream>, Incident<'a>>
+) -> Result<SentFeed, Incident<'a>>
     ensures { IfOk result (λ feed. feed.count ≡ progress.new.sent.count) }
 {
     let stream = connection(rt, server)?;
@@ -216,14 +200,14 @@ fn send_open<'a, R: Files<File = File> + Eprint + Clock + Net + AllocGlobal, S: 
 }
 
 /// The same of files of which none is open yet.
-fn send_from<'a, R: Files<File = File> + Eprint + Clock + Net + AllocGlobal, S: Stations>(
-    rt: &R,
+fn send_from<'a, S: Stations>(
+    rt: &HostRuntime,
     server: ServerAddress<'a>,
     first: FileRecord<'a>,
     others: &[&'a str],
     rules: &FeedRules<'_, S>,
     progress: &mut FeedProgress<'a>,
-) -> Result<SentFeed<R::Stream>, Incident<'a>>
+) -> Result<SentFeed, Incident<'a>>
     ensures { IfOk result (λ feed. feed.count ≡ progress.new.sent.count) }
 {
     let file = input(rt, first.file)?;
@@ -234,14 +218,14 @@ fn send_from<'a, R: Files<File = File> + Eprint + Clock + Net + AllocGlobal, S: 
 /// its first), and shuts the sending half of the connection. All files are looked at before the connection is made, and
 /// the first one is opened. The progress counts the records that the connection has taken whole, also at a fault; what
 /// the server has read of them is not known.
-pub fn send_files<'a, R: Files<File = File> + Eprint + Clock + Net + AllocGlobal, S: Stations>(
-    rt: &R,
+pub fn send_files<'a, S: Stations>(
+    rt: &HostRuntime,
     server: &'a str,
     files: &[&'a str],
     from: u64,
     rules: &FeedRules<'_, S>,
     progress: &mut FeedProgress<'a>,
-) -> Result<Option<SentFeed<R::Stream>>, Incident<'a>>
+) -> Result<Option<SentFeed>, Incident<'a>>
     ensures { IfOk result (λ feed. IfSome feed (λ feed. feed.count ≡ progress.new.sent.count)) }
 {
     let server = server_of(server)?;
@@ -255,8 +239,8 @@ pub fn send_files<'a, R: Files<File = File> + Eprint + Clock + Net + AllocGlobal
 }
 
 /// Sends the records of files to a server, and waits until it has read them.
-fn send_and_wait<'a, R: Files<File = File> + Eprint + Clock + Net + AllocGlobal, S: Stations>(
-    rt: &R,
+fn send_and_wait<'a, S: Stations>(
+    rt: &HostRuntime,
     server: &'a str,
     files: &[&'a str],
     from: u64,
@@ -277,8 +261,8 @@ fn send_and_wait<'a, R: Files<File = File> + Eprint + Clock + Net + AllocGlobal,
 
 /// Says how many records were sent, how many of them are refused, and which is the first. If all may be taken, it is
 /// said on request alone.
-fn tell_sent<R: Eprint>(
-    rt: &R,
+fn tell_sent(
+    rt: &HostRuntime,
     progress: &FeedProgress<'_>,
     config: Option<&str>,
     is_verbose: bool,
@@ -314,8 +298,8 @@ fn first_record(from: Option<usize>) -> u64
 }
 
 /// Sends the records of files to a server that has records of these stations, and tells what came of it.
-fn feed_by<'a, R: Files<File = File> + Eprint + Clock + Net + AllocGlobal, S: Stations>(
-    rt: &R,
+fn feed_by<'a, S: Stations>(
+    rt: &HostRuntime,
     server: &'a str,
     files: &[&'a str],
     options: FeedOptions<'a>,
@@ -354,8 +338,8 @@ fn feed_by<'a, R: Files<File = File> + Eprint + Clock + Net + AllocGlobal, S: St
 /// fault a line says how many records the connection has taken whole, and which was the last. If sixteen records in a
 /// row can't be read, a line says so at once; with `--strict` they are the last that is sent, and the fault is that of
 /// the first. With `--skip` bytes that are in no record are passed over, and a line tells of them.
-pub fn feed_files<'a, R: Files<File = File> + Eprint + Clock + Net + AllocGlobal>(
-    rt: &R,
+pub fn feed_files<'a>(
+    rt: &HostRuntime,
     server: &'a str,
     files: &[&'a str],
     options: FeedOptions<'a>,

@@ -40,8 +40,8 @@ pub fn finding_of(lost: &RefusedRecord) -> Finding {
 /// A file whose records are judged as they are read. Once sixteen in a row can't be read, that is told, or, if it is
 /// strict, they are the last that is read, and the next read fails.
 #[derive(Drop)]
-pub struct Judged<'r, 's, 't, 'f, R, T, S> {
-    rt: &'r R,
+pub struct Judged<'r, 's, 't, 'f, T, S> {
+    rt: &'r HostRuntime,
     inner: Aligned<T>,
     stations: &'s S,
     tally: &'t mut FeedTally,
@@ -58,17 +58,17 @@ pub struct Judged<'r, 's, 't, 'f, R, T, S> {
     kind: Option<FileKind>,
 }
 
-impl<'r, 's, 't, 'f, R: Eprint, T, S: Stations> Judged<'r, 's, 't, 'f, R, T, S> {
+impl<'r, 's, 't, 'f, T, S: Stations> Judged<'r, 's, 't, 'f, T, S> {
     /// The records of a file from an offset on.
     pub fn new(
-        rt: &'r R,
+        rt: &'r HostRuntime,
         inner: Aligned<T>,
         stations: &'s S,
         tally: &'t mut FeedTally,
         file: &'f str,
         is_strict: bool,
         offset: u64,
-    ) -> Judged<'r, 's, 't, 'f, R, T, S> {
+    ) -> Judged<'r, 's, 't, 'f, T, S> {
         Judged {
             rt,
             inner,
@@ -140,7 +140,7 @@ impl<'r, 's, 't, 'f, R: Eprint, T, S: Stations> Judged<'r, 's, 't, 'f, R, T, S> 
     }
 }
 
-impl<R: Eprint, T: Read, S: Stations> Read for Judged<'_, '_, '_, '_, R, T, S> {
+impl<T: Read, S: Stations> Read for Judged<'_, '_, '_, '_, T, S> {
     fn read(&mut self, block: &mut [u8]) -> io::Result<usize> {
         if self.is_over {
             return Err(io::Error::from(ErrorKind::InvalidData));

@@ -12,7 +12,7 @@ mod sent;
 mod skipping;
 
 pub use aligned::{Aligned, Stretch, first_beginning};
-pub use feed::{SentFeed, begin_feed, send_feed};
+pub use feed::SentFeed;
 pub use feeding::{await_end, feed_records};
 pub use feeds::{FeedProgress, FeedRules, feed_files, send_files};
 pub use lines::FeedLine;

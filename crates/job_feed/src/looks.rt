@@ -9,18 +9,17 @@ ghost use Rattle.std.specs.Prelude.{All, Ok, OnOk};
 
 use incidents::Incident;
 use job_base::{open, unopened};
-use std::rt::Files;
 use std::{fs, io};
 
 /// Whether a file can be opened.
-fn open_once<'a, R: Files>(rt: &R, path: &'a str) -> Result<(), Incident<'a>> {
+fn open_once<'a>(rt: &HostRuntime, path: &'a str) -> Result<(), Incident<'a>> {
     open(rt, path)?;
     Ok(())
 }
 
 /// Whether there is a file from which records can be read. A plain file is opened, and a folder is refused. A pipe or a
 /// device is only there: to open a pipe waits for its writer, and to close it may end that.
-fn look_at_file<'a, R: Files>(rt: &R, path: &'a str) -> Result<(), Incident<'a>> {
+fn look_at_file<'a>(rt: &HostRuntime, path: &'a str) -> Result<(), Incident<'a>> {
     match fs::metadata(rt, path) {
         Ok(found) if found.is_file() => open_once(rt, path),
         Ok(found) if found.is_dir() => Err(unopened(
@@ -33,7 +32,7 @@ fn look_at_file<'a, R: Files>(rt: &R, path: &'a str) -> Result<(), Incident<'a>>
 }
 
 /// The same of what a word of the command line names, which may be the standard input.
-fn look_at<'a, R: Files>(rt: &R, path: &'a str) -> Result<(), Incident<'a>> {
+fn look_at<'a>(rt: &HostRuntime, path: &'a str) -> Result<(), Incident<'a>> {
     match path {
         "-" => Ok(()),
         _ => look_at_file(rt, path),
@@ -52,6 +51,6 @@ fn try_each<T: Copy, E: Drop, F: Fn(T) -> Result<(), E>>(items: &[T], attempt: F
 }
 
 /// Looks at each of some files.
-pub fn look_at_each<'a, R: Files>(rt: &R, files: &[&'a str]) -> Result<(), Incident<'a>> {
+pub fn look_at_each<'a>(rt: &HostRuntime, files: &[&'a str]) -> Result<(), Incident<'a>> {
     try_each(files, |path| look_at(rt, path))
 }

@@ -18,10 +18,9 @@ use std::cell::RefCell;
 use std::fs::File;
 use std::io::{self, Write};
 use std::num::NonZeroUsize;
-use std::rt::{Clock, Files};
 
 /// An archive on the disk.
-type DiskArchive<'r, R> = Archive<ContinuedFiles<DiskFiles<'r, R>>>;
+type DiskArchive<'r> = Archive<ContinuedFiles<DiskFiles<'r>>>;
 
 /// How many files an archive keeps open at most.
 const MOST_OPEN: u64 = 1_024;
@@ -31,11 +30,11 @@ const OTHERS: u64 = 64;
 
 /// An archive of which it is told how many records have no place, and which files had a torn end.
 #[derive(Drop)]
-pub struct ToldArchive<'r, R: Files<File = File> + Clock> {
-    rt: &'r R,
-    archive: RefCell<DiskArchive<'r, R>>,
+pub struct ToldArchive<'r> {
+    rt: &'r HostRuntime,
+    archive: RefCell<DiskArchive<'r>>,
     _locks: StationLocks,
-    teller: ErrorTeller<'r, R>,
+    teller: ErrorTeller<'r>,
     count: UnplacedCount,
     failures: u64,
 }
@@ -62,13 +61,13 @@ fn open_count(limit: Option<u64>, stations: usize) -> NonZeroUsize {
 
 /// Files at a place, in which a reader goes on after what a state says of them. Without a state nothing has to last,
 /// and what stands in a file is not handed again.
-pub fn files_at<'r, 'a: 'r, R: Files<File = File> + Clock + AllocGlobal>(
-    rt: &'r R,
+pub fn files_at<'r, 'a: 'r>(
+    rt: &'r HostRuntime,
     place: FilePlace<'a>,
     stations: usize,
     named: Option<Vec<FileLength>>,
     unnamed: Unnamed,
-) -> ContinuedFiles<DiskFiles<'r, R>> {
+) -> ContinuedFiles<DiskFiles<'r>> {
     let open = open_count(descriptor_limit(), stations);
     let files = DiskFiles::new(rt, rt.alloc(), place, open, named.is_some());
     match named {
@@ -79,12 +78,12 @@ pub fn files_at<'r, 'a: 'r, R: Files<File = File> + Clock + AllocGlobal>(
 
 /// The archive below a folder of records of the stations that are wanted, to which nobody else adds records of these
 /// meanwhile. With a state it goes on after the lengths of files that that names, and can be made to last.
-pub fn archive_at<'r, 'a: 'r, R: Files<File = File> + Clock + AllocGlobal>(
-    rt: &'r R,
+pub fn archive_at<'r, 'a: 'r>(
+    rt: &'r HostRuntime,
     top: &'a str,
     named: Option<Vec<FileLength>>,
     wants: &[Want<'_>],
-) -> Result<ToldArchive<'r, R>, Incident<'a>> {
+) -> Result<ToldArchive<'r>, Incident<'a>> {
     let Ok(stations) = stations_of(rt.alloc(), wants) else {
         return Err(Incident::from(Failure::OutOfMemory));
     };
@@ -102,8 +101,8 @@ pub fn archive_at<'r, 'a: 'r, R: Files<File = File> + Clock + AllocGlobal>(
 }
 
 /// The locks of stations below a folder.
-fn locks_at<'a, R: Files<File = File> + AllocGlobal>(
-    rt: &R,
+fn locks_at<'a>(
+    rt: &HostRuntime,
     top: &'a str,
     stations: &[StationCodes],
 ) -> Result<StationLocks, Incident<'a>> {
@@ -152,7 +151,7 @@ pub fn at_archive<'a>(
     }
 }
 
-impl<'r, R: Files<File = File> + Eprint + Clock> ToldArchive<'r, R> {
+impl ToldArchive<'_> {
     /// No more records come: says how many have no place, if more have none than was told, and answers why the last
     /// one could not be added, if that is so.
     pub fn end(&mut self) -> Option<FileFailure> {
@@ -179,8 +178,8 @@ impl<'r, R: Files<File = File> + Eprint + Clock> ToldArchive<'r, R> {
 
 /// Puts a record into an archive, and answers as well how many of its records have no place, and which file was torn.
 #[tactic(auto, unfolding(slreader::specs::Tallies::packet_facts))]
-fn put_to<'r, R: Files<File = File> + Clock>(
-    archive: &mut DiskArchive<'r, R>,
+fn put_to(
+    archive: &mut DiskArchive<'_>,
     packet: &GivenPacket<'_>,
 ) -> (Result<(), ArchiveFault>, u64, Option<String>) {
     let put = archive.put(packet.record(), packet.header());
@@ -188,7 +187,7 @@ fn put_to<'r, R: Files<File = File> + Clock>(
     (put, archive.unplaced(), torn)
 }
 
-impl<'r, R: Files<File = File> + Eprint + Clock> RecordSink for ToldArchive<'r, R> {
+impl RecordSink for ToldArchive<'_> {
     ghost written = { λ _. None };
 
     ghost Waits = { λ _ _. Unit {0} };
@@ -221,19 +220,19 @@ impl<'r, R: Files<File = File> + Eprint + Clock> RecordSink for ToldArchive<'r, 
 
 /// One file to which a reader adds each record once, of which it is told if it had a torn end.
 #[derive(Drop)]
-pub struct ToldOutput<'r, R: Files<File = File> + Clock> {
-    rt: &'r R,
-    output: RefCell<ContinuedOutput<DiskFiles<'r, R>>>,
+pub struct ToldOutput<'r> {
+    rt: &'r HostRuntime,
+    output: RefCell<ContinuedOutput<DiskFiles<'r>>>,
     failures: u64,
 }
 
 /// The file at a path, in which a reader goes on after what a state says of it. If that says nothing, what stands there
 /// is not handed again.
-pub fn output_at<'r, 'a: 'r, R: Files<File = File> + Clock + AllocGlobal>(
-    rt: &'r R,
+pub fn output_at<'r, 'a: 'r>(
+    rt: &'r HostRuntime,
     path: &'a str,
     named: Vec<FileLength>,
-) -> ToldOutput<'r, R> {
+) -> ToldOutput<'r> {
     let files = files_at(rt, FilePlace::At(path), 0, Some(named), Unnamed::Kept);
     ToldOutput {
         rt,
@@ -242,7 +241,7 @@ pub fn output_at<'r, 'a: 'r, R: Files<File = File> + Clock + AllocGlobal>(
     }
 }
 
-impl<'r, R: Files<File = File> + Clock> ToldOutput<'r, R> {
+impl ToldOutput<'_> {
     /// What the system says of the last call that failed.
     pub fn take_reason(&mut self) -> Option<io::Error> {
         let failure = self.output.get_mut().take_failure()?;
@@ -251,10 +250,7 @@ impl<'r, R: Files<File = File> + Clock> ToldOutput<'r, R> {
 }
 
 /// Puts the end of a file aside that is no whole record, before records are added to it, and tells that.
-pub fn mend_end<'a, R: Files<File = File> + Eprint + Clock + AllocGlobal>(
-    rt: &R,
-    path: &'a str,
-) -> Result<(), Incident<'a>> {
+pub fn mend_end<'a>(rt: &HostRuntime, path: &'a str) -> Result<(), Incident<'a>> {
     let place = FilePlace::At(path);
     let mut files = DiskFiles::new(rt, rt.alloc(), place, NonZeroUsize::MIN, false);
     if files.count(ONE_FILE).is_err() {
@@ -306,8 +302,8 @@ impl Write for WholeFile {
 }
 
 /// Puts a record into a file, and answers as well whether that was torn.
-fn put_one<'r, R: Files<File = File> + Clock>(
-    output: &mut ContinuedOutput<DiskFiles<'r, R>>,
+fn put_one(
+    output: &mut ContinuedOutput<DiskFiles<'_>>,
     packet: &GivenPacket<'_>,
 ) -> (Result<(), FolderFault>, Option<String>) {
     let put = output.put(packet.record());
@@ -315,7 +311,7 @@ fn put_one<'r, R: Files<File = File> + Clock>(
     (put, torn)
 }
 
-impl<'r, R: Files<File = File> + Eprint + Clock> RecordSink for ToldOutput<'r, R> {
+impl RecordSink for ToldOutput<'_> {
     ghost written = { λ _. None };
 
     ghost Waits = { λ _ _. Unit {0} };
@@ -378,7 +374,7 @@ fn unlasting(failure: Option<FileFailure>) -> FileFailure {
     }
 }
 
-impl<'r, R: Files<File = File> + Clock> Lasting for ToldArchive<'r, R> {
+impl Lasting for ToldArchive<'_> {
     fn make_last(&self) -> Result<Option<Vec<FileLength>>, FileFailure> {
         let Ok(mut archive) = self.archive.try_borrow_mut() else {
             return Err(unlasting(None));
@@ -390,7 +386,7 @@ impl<'r, R: Files<File = File> + Clock> Lasting for ToldArchive<'r, R> {
     }
 }
 
-impl<'r, R: Files<File = File> + Clock> Lasting for ToldOutput<'r, R> {
+impl Lasting for ToldOutput<'_> {
     fn make_last(&self) -> Result<Option<Vec<FileLength>>, FileFailure> {
         let Ok(mut output) = self.output.try_borrow_mut() else {
             return Err(unlasting(None));

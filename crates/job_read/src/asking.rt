@@ -9,8 +9,6 @@ use crate::inlet::Inlet;
 use crate::patience::{Patience, shorter};
 use std::cell::Cell;
 use std::io::{self, ErrorKind, Read};
-use std::net::OpenStream;
-use std::rt::Clock;
 
 /// How many milliseconds a connection lasts on which a want was refused.
 const HOUR: u64 = 3_600_000;
@@ -45,41 +43,41 @@ impl Renewal {
     }
 
     /// A want is refused.
-    pub fn refuse<R: Clock>(&self, rt: &R) {
+    pub fn refuse(&self, rt: &HostRuntime) {
         if self.is_retried && self.refused.get().is_none() {
             self.refused.set(Some(milliseconds(rt)));
         }
     }
 
     /// How many milliseconds the connection still lasts, if it ends so that wants are asked again.
-    fn left<R: Clock>(&self, rt: &R) -> Option<u64> {
+    fn left(&self, rt: &HostRuntime) -> Option<u64> {
         let refused = self.refused.get()?;
         Some(left_after(refused, milliseconds(rt)))
     }
 
     /// Whether it is over by that.
-    pub fn is_over<R: Clock>(&self, rt: &R) -> bool {
+    pub fn is_over(&self, rt: &HostRuntime) -> bool {
         self.left(rt) == Some(0)
     }
 }
 
 /// Reads what comes at a connection until it is over.
 #[derive(Drop)]
-pub struct RenewedReader<'r, R, S> {
-    inlet: &'r Inlet<S>,
-    rt: &'r R,
+pub struct RenewedReader<'r> {
+    inlet: &'r Inlet,
+    rt: &'r HostRuntime,
     renewal: &'r Renewal,
     patience: &'r Patience,
 }
 
-impl<'r, R, S> RenewedReader<'r, R, S> {
+impl<'r> RenewedReader<'r> {
     /// What comes at `inlet`.
     pub fn new(
-        inlet: &'r Inlet<S>,
-        rt: &'r R,
+        inlet: &'r Inlet,
+        rt: &'r HostRuntime,
         renewal: &'r Renewal,
         patience: &'r Patience,
-    ) -> RenewedReader<'r, R, S> {
+    ) -> RenewedReader<'r> {
         RenewedReader {
             inlet,
             rt,
@@ -87,9 +85,7 @@ impl<'r, R, S> RenewedReader<'r, R, S> {
             patience,
         }
     }
-}
 
-impl<'r, R: Clock, S> RenewedReader<'r, R, S> {
     /// How many milliseconds the connection still lasts if nothing has come since a moment.
     fn left(&self, begun: u64) -> Option<u64> {
         let silence = self.patience.left(begun, milliseconds(self.rt));
@@ -105,7 +101,7 @@ impl<'r, R: Clock, S> RenewedReader<'r, R, S> {
     }
 }
 
-impl<'r, R: Clock, S: Read + OpenStream + Drop> Read for RenewedReader<'r, R, S> {
+impl Read for RenewedReader<'_> {
     fn read(&mut self, block: &mut [u8]) -> io::Result<usize> {
         let count = self.read_in_time(block)?;
         self.patience.receive(count);
@@ -113,7 +109,7 @@ impl<'r, R: Clock, S: Read + OpenStream + Drop> Read for RenewedReader<'r, R, S>
     }
 }
 
-impl<'r, R: Clock, S: Read + OpenStream + Drop> RenewedReader<'r, R, S> {
+impl RenewedReader<'_> {
     /// Reads what comes before the connection is over.
     fn read_in_time(&mut self, block: &mut [u8]) -> io::Result<usize>
         ensures { ReadsAtMost result block.new }

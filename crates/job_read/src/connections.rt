@@ -18,29 +18,27 @@ use job_base::{ServerAddress, connection, unconnected};
 use ports_socket::notice_silence;
 use reader_run::{ListingFault, Servers};
 use sl_io::Outer;
-use std::io::{self, ErrorKind, Read};
-use std::net::{Net, OpenStream, SocketAddr, TcpStream};
-use std::os::fd::AsRawFd;
-use std::rt::Clock;
+use std::io::{self, ErrorKind};
+use std::net::{SocketAddr, TcpStream};
 use std::time::Duration;
 
 /// The servers of a reading, and whose turn it is.
 #[derive(Drop)]
-pub struct ServersInTurn<'r, 'a, 'w, R: Net> {
-    rt: &'r R,
+pub struct ServersInTurn<'r, 'a, 'w> {
+    rt: &'r HostRuntime,
     reading: &'r Reading<'a, 'w>,
     places: Places,
     /// The connection that is read.
-    inlet: &'r Inlet<R::Stream>,
+    inlet: &'r Inlet,
 }
 
-impl<'r, 'a, 'w, R: Eprint + Clock + Net + AllocGlobal> ServersInTurn<'r, 'a, 'w, R> {
+impl<'r, 'a, 'w> ServersInTurn<'r, 'a, 'w> {
     /// No connection was made yet.
     pub fn new(
-        rt: &'r R,
+        rt: &'r HostRuntime,
         reading: &'r Reading<'a, 'w>,
-        inlet: &'r Inlet<R::Stream>,
-    ) -> ServersInTurn<'r, 'a, 'w, R> {
+        inlet: &'r Inlet,
+    ) -> ServersInTurn<'r, 'a, 'w> {
         ServersInTurn {
             rt,
             reading,
@@ -74,18 +72,18 @@ impl<'r, 'a, 'w, R: Eprint + Clock + Net + AllocGlobal> ServersInTurn<'r, 'a, 'w
 }
 
 /// What comes over a connection, as it is read.
-type ConnectionReader<'r, R, S> = Outer<AnswerCounter<RenewedReader<'r, R, S>>>;
+type ConnectionReader<'r> = Outer<AnswerCounter<RenewedReader<'r>>>;
 
 /// What comes over a connection, and where commands go.
-type Connected<'r, R, S> = (ConnectionReader<'r, R, S>, Outer<CommandWriter<'r, S>>);
+type Connected<'r> = (ConnectionReader<'r>, Outer<CommandWriter<'r>>);
 
 /// Both sides of a connection, which ends if the server's machine is gone.
-fn sides<'r, R: AllocGlobal, S: Read + OpenStream + AsRawFd + Drop>(
-    stream: S,
-    inlet: &'r Inlet<S>,
-    rt: &'r R,
+fn sides<'r>(
+    stream: TcpStream,
+    inlet: &'r Inlet,
+    rt: &'r HostRuntime,
     reading: &'r Reading<'_, '_>,
-) -> io::Result<Connected<'r, R, S>> {
+) -> io::Result<Connected<'r>> {
     notice_silence(&stream)?;
     let writer = stream.try_clone()?;
     inlet.open(rt.alloc(), stream)?;
@@ -97,11 +95,11 @@ fn sides<'r, R: AllocGlobal, S: Read + OpenStream + AsRawFd + Drop>(
 }
 
 /// A connection to a server, if it is made in time.
-fn connection_within<'a, R: Net>(
-    rt: &R,
+fn connection_within<'a>(
+    rt: &HostRuntime,
     server: ServerAddress<'a>,
     limit: Option<Duration>,
-) -> Result<R::Stream, Incident<'a>> {
+) -> Result<TcpStream, Incident<'a>> {
     let Some(limit) = limit else {
         return connection(rt, server);
     };
@@ -117,12 +115,12 @@ fn connection_within<'a, R: Net>(
 }
 
 /// A connection to a server.
-fn connected<'r, 'a, R: Net + AllocGlobal>(
-    rt: &'r R,
+fn connected<'r, 'a>(
+    rt: &'r HostRuntime,
     server: ServerAddress<'a>,
-    inlet: &'r Inlet<R::Stream>,
+    inlet: &'r Inlet,
     reading: &'r Reading<'_, '_>,
-) -> Result<Connected<'r, R, R::Stream>, Incident<'a>> {
+) -> Result<Connected<'r>, Incident<'a>> {
     let stream = connection_within(rt, server, reading.patience.limit())?;
     match sides(stream, inlet, rt, reading) {
         Ok(sides) => Ok(sides),
@@ -130,16 +128,16 @@ fn connected<'r, 'a, R: Net + AllocGlobal>(
     }
 }
 
-impl<'r, 'a, 'w, R: Eprint + Clock + Net + AllocGlobal> Servers for ServersInTurn<'r, 'a, 'w, R> {
-    type Reader = ConnectionReader<'r, R, R::Stream>;
+impl<'r, 'a, 'w> Servers for ServersInTurn<'r, 'a, 'w> {
+    type Reader = ConnectionReader<'r>;
 
-    type Writer = Outer<CommandWriter<'r, R::Stream>>;
+    type Writer = Outer<CommandWriter<'r>>;
 
     type Fault = Incident<'a>;
 
     ghost told = { λ _. None };
 
-    fn connect(&mut self) -> Result<Connected<'r, R, R::Stream>, Incident<'a>> {
+    fn connect(&mut self) -> Result<Connected<'r>, Incident<'a>> {
         self.reading.renewal.begin();
         self.reading.patience.begin();
         for _ in 0..u64::MAX {
@@ -155,8 +153,8 @@ impl<'r, 'a, 'w, R: Eprint + Clock + Net + AllocGlobal> Servers for ServersInTur
     fn pass_over(
         &mut self,
         fault: ListingFault,
-        reader: ConnectionReader<'r, R, R::Stream>,
-        _writer: Outer<CommandWriter<'r, R::Stream>>,
+        reader: ConnectionReader<'r>,
+        _writer: Outer<CommandWriter<'r>>,
     ) -> Result<(), Incident<'a>> {
         self.inlet.close();
         if fault == ListingFault::Read && self.reading.renewal.is_over(self.rt) {
@@ -177,11 +175,7 @@ impl<'r, 'a, 'w, R: Eprint + Clock + Net + AllocGlobal> Servers for ServersInTur
         self.go_on_after(incident)
     }
 
-    fn close(
-        &mut self,
-        _reader: ConnectionReader<'r, R, R::Stream>,
-        _writer: Outer<CommandWriter<'r, R::Stream>>,
-    ) {
+    fn close(&mut self, _reader: ConnectionReader<'r>, _writer: Outer<CommandWriter<'r>>) {
         self.inlet.close();
     }
 }

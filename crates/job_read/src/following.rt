@@ -12,17 +12,10 @@ use reader_run::{Break, Keeper, ListingFault, RecordSink, Servers, follow};
 use sl_io::Sink;
 use slreader::{ReaderFault, Tally};
 use std::alloc::Global;
-use std::rt::Clock;
 
 /// Asks servers for what a reading wants. What is met is told, if it is to be.
-pub fn follow_any<
-    R: Eprint + Clock + AllocGlobal,
-    S: Servers,
-    O: Sink + Drop,
-    P: RecordSink,
-    K: Keeper<P>,
->(
-    rt: &R,
+pub fn follow_any<S: Servers, O: Sink + Drop, P: RecordSink, K: Keeper<P>>(
+    rt: &HostRuntime,
     reading: &Reading<'_, '_>,
     tally: &mut Tally,
     servers: &mut S,
@@ -84,15 +77,8 @@ fn follow_with<S: Servers, O: Sink, P: RecordSink, K: Keeper<P>>(
 }
 
 /// The same, and what is met is told.
-fn follow_told<
-    'r,
-    R: Eprint + Clock + AllocGlobal,
-    S: Servers,
-    O: Sink + Drop,
-    P: RecordSink,
-    K: Keeper<P>,
->(
-    rt: &'r R,
+fn follow_told<'r, S: Servers, O: Sink + Drop, P: RecordSink, K: Keeper<P>>(
+    rt: &'r HostRuntime,
     reading: &'r Reading<'_, '_>,
     tally: &mut Tally,
     servers: &mut S,

@@ -8,7 +8,7 @@ ghost use Rattle.job_read.specs.Waiting.{is_within};
 use std::alloc::Global;
 use std::cell::{Cell, RefCell};
 use std::io::{self, BufRead, BufReader, ErrorKind, Read};
-use std::net::OpenStream;
+use std::net::TcpStream;
 use std::time::Duration;
 
 /// How many bytes are read ahead at most: as many as a reading asks for at once.
@@ -16,9 +16,9 @@ const AHEAD: usize = 65_536;
 
 /// The connection that is read, if there is one.
 #[derive(Drop)]
-pub struct Inlet<S> {
+pub struct Inlet {
     /// What comes over it, with what was read ahead.
-    stream: RefCell<Option<BufReader<S>>>,
+    stream: RefCell<Option<BufReader<TcpStream>>>,
     /// After how many milliseconds the system ends a read that brings nothing, as it was told last; never if that is
     /// None.
     limit: Cell<Option<u64>>,
@@ -40,9 +40,9 @@ fn is_timed_out(reason: &io::Error) -> bool {
     reason.kind() == ErrorKind::WouldBlock
 }
 
-impl<S: Drop> Inlet<S> {
+impl Inlet {
     /// No connection yet.
-    pub fn new() -> Inlet<S> {
+    pub fn new() -> Inlet {
         Inlet {
             stream: RefCell::new(None),
             limit: Cell::new(None),
@@ -55,11 +55,9 @@ impl<S: Drop> Inlet<S> {
             *held = None;
         }
     }
-}
 
-impl<S: Read + OpenStream + Drop> Inlet<S> {
     /// Another connection is read.
-    pub fn open(&self, alloc: Global, stream: S) -> io::Result<()> {
+    pub fn open(&self, alloc: Global, stream: TcpStream) -> io::Result<()> {
         let reader = BufReader::with_capacity(alloc, AHEAD, stream)?;
         if let Ok(mut held) = self.stream.try_borrow_mut() {
             *held = Some(reader);
@@ -69,11 +67,14 @@ impl<S: Read + OpenStream + Drop> Inlet<S> {
     }
 
     /// Has the system end each read after so many milliseconds. Where that can't be set a read waits on.
-    fn set_limit(&self, stream: &S, limit: Option<u64>) {
+    fn set_limit(&self, stream: &TcpStream, limit: Option<u64>) {
         if self.limit.get() == limit {
             return;
         }
-        let time = limit.map(|limit| Duration::from_millis(limit));
+        let time = match limit {
+            Some(limit) => Some(Duration::from_millis(limit)),
+            None => None,
+        };
         if stream.set_read_timeout(time).is_ok() {
             self.limit.set(limit);
         }

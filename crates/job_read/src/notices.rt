@@ -7,7 +7,6 @@ use crate::asking::Renewal;
 use shown_lines::ShownLine;
 use sl_packet::Seq;
 use std::fmt::{self, Display, Formatter, Write};
-use std::rt::Clock;
 
 /// Something that a reader meets.
 #[derive(Clone, Copy)]
@@ -74,18 +73,18 @@ pub trait Teller {
 
 /// Tells on the standard error, a line each.
 #[derive(Drop)]
-pub struct ErrorTeller<'r, R> {
-    rt: &'r R,
+pub struct ErrorTeller<'r> {
+    rt: &'r HostRuntime,
 }
 
-impl<'r, R> ErrorTeller<'r, R> {
+impl<'r> ErrorTeller<'r> {
     /// Nothing was told yet.
-    pub fn new(rt: &'r R) -> ErrorTeller<'r, R> {
+    pub fn new(rt: &'r HostRuntime) -> ErrorTeller<'r> {
         ErrorTeller { rt }
     }
 }
 
-impl<'r, R: Eprint> Teller for ErrorTeller<'r, R> {
+impl Teller for ErrorTeller<'_> {
     ghost told = { λ _. None };
 
     fn tell(&mut self, notice: &Notice<'_>) {
@@ -95,22 +94,22 @@ impl<'r, R: Eprint> Teller for ErrorTeller<'r, R> {
 
 /// Passes on what is told, and has wants asked again that are refused.
 #[derive(Drop)]
-pub struct RefusalTeller<'r, R, T> {
+pub struct RefusalTeller<'r, T> {
     inner: T,
-    rt: &'r R,
+    rt: &'r HostRuntime,
     renewal: &'r Renewal,
 }
 
-impl<'r, R, T> RefusalTeller<'r, R, T> {
+impl<'r, T> RefusalTeller<'r, T> {
     /// Tells `inner`.
-    pub fn new(inner: T, rt: &'r R, renewal: &'r Renewal) -> RefusalTeller<'r, R, T>
+    pub fn new(inner: T, rt: &'r HostRuntime, renewal: &'r Renewal) -> RefusalTeller<'r, T>
         ensures { result.inner ≡ inner }
     {
         RefusalTeller { inner, rt, renewal }
     }
 }
 
-impl<'r, R: Clock, T: Teller> Teller for RefusalTeller<'r, R, T> {
+impl<T: Teller> Teller for RefusalTeller<'_, T> {
     ghost told = { λ t. T.told t.inner };
 
     fn tell(&mut self, notice: &Notice<'_>) {

@@ -26,8 +26,6 @@ use sl_io::{Outer, Sink};
 use slreader::{Tally, Want, Window};
 use std::alloc::{AllocError, Global};
 use std::fs::{File, OpenOptions};
-use std::net::Net;
-use std::rt::{Clock, Files};
 use std::time::Duration;
 use std::{fs, io, thread};
 
@@ -36,9 +34,9 @@ fn servers_of<'a>(alloc: Global, word: &'a str) -> Result<Vec<ServerAddress<'a>>
     let mut servers = Vec::new(alloc);
     for part in word.split(',') {
         let server = server_of(part)?;
-        servers
-            .push(server)
-            .map_err(|_| Incident::from(Failure::OutOfMemory))?;
+        if servers.push(server).is_err() {
+            return Err(Incident::from(Failure::OutOfMemory));
+        }
     }
     Ok(servers)
 }
@@ -69,9 +67,9 @@ impl<'a> Reading<'a, '_> {
 
     /// Tells a failure after which the next server is asked, and waits before that: a server that is a moment behind
     /// the last one would hand out records again. It fails with a failure that ends the reading.
-    pub fn pass_over<R: Eprint + Clock>(
+    pub fn pass_over(
         &self,
-        rt: &R,
+        rt: &HostRuntime,
         incident: Incident<'a>,
         places: &Places,
     ) -> Result<(), Incident<'a>>
@@ -90,7 +88,7 @@ impl<'a> Reading<'a, '_> {
 }
 
 /// A file to which records are added.
-fn opened_to_add<'a, R: Files>(rt: &R, path: &'a str) -> Result<R::File, Incident<'a>> {
+fn opened_to_add<'a>(rt: &HostRuntime, path: &'a str) -> Result<File, Incident<'a>> {
     let mut options = OpenOptions::new();
     options.append(true);
     options.create(true);
@@ -104,10 +102,7 @@ fn opened_to_add<'a, R: Files>(rt: &R, path: &'a str) -> Result<R::File, Inciden
 }
 
 /// The same, and once more the same open file, to put what was added on the disk.
-fn opened_twice<'a, R: Files<File = File>>(
-    rt: &R,
-    path: &'a str,
-) -> Result<(File, SameFile<'a>), Incident<'a>> {
+fn opened_twice<'a>(rt: &HostRuntime, path: &'a str) -> Result<(File, SameFile<'a>), Incident<'a>> {
     let opened = opened_to_add(rt, path)?;
     match opened.try_clone() {
         Ok(file) => Ok((opened, SameFile { path, file })),
@@ -118,17 +113,14 @@ fn opened_twice<'a, R: Files<File = File>>(
 /// Asks one server after the other, and the first one again after a pause if there is one, each of them for what comes
 /// after the packets that were written. With a state it begins after what that tells of, and keeps there how far it is.
 /// A failure after which it goes on is told.
-fn list_on<'a, R, O: Sink + Drop, P: RecordSink + Lasting>(
-    rt: &R,
+fn list_on<'a, O: Sink + Drop, P: RecordSink + Lasting>(
+    rt: &HostRuntime,
     reading: &Reading<'a, '_>,
     state: Option<Box<StateFile<'a>>>,
     output: Option<SameFile<'a>>,
     out: O,
     records: &mut P,
-) -> Result<(), Incident<'a>>
-where
-    R: Files + Eprint + Clock + Net + AllocGlobal,
-{
+) -> Result<(), Incident<'a>> {
     match tally_after(rt.alloc(), &reading.wants, &state) {
         Ok(mut tally) => list_after(rt, reading, &mut tally, state, output, out, records),
         Err(AllocError) => Err(Incident::from(Failure::OutOfMemory)),
@@ -136,18 +128,15 @@ where
 }
 
 /// The same, after the packets that were counted.
-fn list_after<'a, R, O: Sink + Drop, P: RecordSink + Lasting>(
-    rt: &R,
+fn list_after<'a, O: Sink + Drop, P: RecordSink + Lasting>(
+    rt: &HostRuntime,
     reading: &Reading<'a, '_>,
     tally: &mut Tally,
     state: Option<Box<StateFile<'a>>>,
     output: Option<SameFile<'a>>,
     out: O,
     records: &mut P,
-) -> Result<(), Incident<'a>>
-where
-    R: Files + Eprint + Clock + Net + AllocGlobal,
-{
+) -> Result<(), Incident<'a>> {
     let inlet = Inlet::new();
     let mut servers = ServersInTurn::new(rt, reading, &inlet);
     let mut keeper = StateKeeper::new(rt, state, &reading.wants, output, &inlet, &reading.patience);
@@ -195,8 +184,8 @@ fn tally_after(
 }
 
 /// Lists packets on the standard output, and writes no records.
-fn list_lines<'a, R: Files + Print + Eprint + Clock + Net + AllocGlobal>(
-    rt: &R,
+fn list_lines<'a>(
+    rt: &HostRuntime,
     reading: &Reading<'a, '_>,
     state: Option<Box<StateFile<'a>>>,
 ) -> Result<(), Incident<'a>> {
@@ -205,8 +194,8 @@ fn list_lines<'a, R: Files + Print + Eprint + Clock + Net + AllocGlobal>(
 }
 
 /// Lists packets on the standard error, and writes their records to the standard output.
-fn list_records<'a, R: Files + Print + Eprint + Clock + Net + AllocGlobal>(
-    rt: &R,
+fn list_records<'a>(
+    rt: &HostRuntime,
     reading: &Reading<'a, '_>,
     state: Option<Box<StateFile<'a>>>,
 ) -> Result<(), Incident<'a>> {
@@ -216,8 +205,8 @@ fn list_records<'a, R: Files + Print + Eprint + Clock + Net + AllocGlobal>(
 }
 
 /// Lists packets on the standard output, and adds their records to a file.
-fn list_and_add<'a, R: Files<File = File> + Print + Eprint + Clock + Net + AllocGlobal>(
-    rt: &R,
+fn list_and_add<'a>(
+    rt: &HostRuntime,
     reading: &Reading<'a, '_>,
     state: Option<Box<StateFile<'a>>>,
     path: &'a str,
@@ -235,8 +224,8 @@ fn list_and_add<'a, R: Files<File = File> + Print + Eprint + Clock + Net + Alloc
 }
 
 /// The same, to whatever the path names.
-fn list_and_append<'a, R: Files<File = File> + Print + Eprint + Clock + Net + AllocGlobal>(
-    rt: &R,
+fn list_and_append<'a>(
+    rt: &HostRuntime,
     reading: &Reading<'a, '_>,
     state: Option<Box<StateFile<'a>>>,
     path: &'a str,
@@ -255,8 +244,8 @@ fn list_and_append<'a, R: Files<File = File> + Print + Eprint + Clock + Net + Al
 }
 
 /// The same, to a plain file, in which the reader goes on after what the state says of it: each record is added once.
-fn list_and_go_on<'a, R: Files<File = File> + Print + Eprint + Clock + Net + AllocGlobal>(
-    rt: &R,
+fn list_and_go_on<'a>(
+    rt: &HostRuntime,
     reading: &Reading<'a, '_>,
     mut state: Box<StateFile<'a>>,
     path: &'a str,
@@ -278,7 +267,7 @@ fn list_and_go_on<'a, R: Files<File = File> + Print + Eprint + Clock + Net + All
 fn drop_file<F: Drop>(_file: F) {}
 
 /// Whether a path names a plain file, or nothing yet.
-fn is_plain<R: Files>(rt: &R, path: &str) -> bool {
+fn is_plain(rt: &HostRuntime, path: &str) -> bool {
     match fs::metadata(rt, path) {
         Ok(found) => found.is_file(),
         Err(reason) => reason.kind() == io::ErrorKind::NotFound,
@@ -286,8 +275,8 @@ fn is_plain<R: Files>(rt: &R, path: &str) -> bool {
 }
 
 /// Lists packets on the standard output, and adds their records to an archive.
-fn list_and_archive<'a, R: Files<File = File> + Print + Eprint + Clock + Net + AllocGlobal>(
-    rt: &R,
+fn list_and_archive<'a>(
+    rt: &HostRuntime,
     reading: &Reading<'a, '_>,
     state: Option<Box<StateFile<'a>>>,
     top: &'a str,
@@ -337,8 +326,8 @@ fn patience_of(options: ReadOptions<'_>, count: usize) -> Patience {
 }
 
 /// The state in a file, if one is named.
-fn state_in<'a, R: Files<File = File> + AllocGlobal>(
-    rt: &R,
+fn state_in<'a>(
+    rt: &HostRuntime,
     path: Option<&'a str>,
 ) -> Result<Option<Box<StateFile<'a>>>, Incident<'a>> {
     let Some(path) = path else {
@@ -354,8 +343,8 @@ fn state_in<'a, R: Files<File = File> + AllocGlobal>(
 /// added to that file. If the output is `-`, records go to the standard output, and lines to the standard error. With
 /// an archive each record is added to the file of its stream and day. With a state the reading goes on after the
 /// packets that the state names, and the last packet of each station is kept in it.
-pub fn read_servers<'a, R: Files<File = File> + Print + Eprint + Clock + Net + AllocGlobal>(
-    rt: &R,
+pub fn read_servers<'a>(
+    rt: &HostRuntime,
     servers: &'a str,
     wants: &[&'a str],
     options: ReadOptions<'a>,
@@ -367,8 +356,8 @@ pub fn read_servers<'a, R: Files<File = File> + Print + Eprint + Clock + Net + A
 }
 
 /// The same, in a window.
-fn read_between<'a, R: Files<File = File> + Print + Eprint + Clock + Net + AllocGlobal>(
-    rt: &R,
+fn read_between<'a>(
+    rt: &HostRuntime,
     servers: Vec<ServerAddress<'a>>,
     wants: &[&'a str],
     window: Window<'_>,
@@ -393,8 +382,8 @@ fn read_between<'a, R: Files<File = File> + Print + Eprint + Clock + Net + Alloc
 }
 
 /// Reads, with the outputs and the state of the options.
-fn read_to<'a, R: Files<File = File> + Print + Eprint + Clock + Net + AllocGlobal>(
-    rt: &R,
+fn read_to<'a>(
+    rt: &HostRuntime,
     reading: &Reading<'a, '_>,
     options: ReadOptions<'a>,
 ) -> Result<(), Incident<'a>> {

@@ -3,20 +3,20 @@
 use crate::patience::Patience;
 use std::io;
 use std::io::{Read, Write};
-use std::net::{OpenStream, Shutdown};
+use std::net::{Shutdown, TcpStream};
 
 /// Passes on commands until one can't be sent. The connection is over then: nothing more is passed on, and the next
 /// read says so.
 #[derive(Drop)]
-pub struct CommandWriter<'r, T> {
-    inner: T,
+pub struct CommandWriter<'r> {
+    inner: TcpStream,
     patience: &'r Patience,
     is_over: bool,
 }
 
-impl<'r, T> CommandWriter<'r, T> {
+impl<'r> CommandWriter<'r> {
     /// What is written to `inner`.
-    pub fn new(inner: T, patience: &'r Patience) -> CommandWriter<'r, T> {
+    pub fn new(inner: TcpStream, patience: &'r Patience) -> CommandWriter<'r> {
         CommandWriter {
             inner,
             patience,
@@ -25,7 +25,7 @@ impl<'r, T> CommandWriter<'r, T> {
     }
 }
 
-impl<'r, T: Write + OpenStream> Write for CommandWriter<'r, T> {
+impl Write for CommandWriter<'_> {
     fn write(&mut self, bytes: &[u8]) -> io::Result<usize> {
         if self.is_over {
             return Ok(bytes.len());

@@ -18,8 +18,6 @@ use slreader::{LastPacket, Tally, Want};
 use std::alloc::{AllocError, Global};
 use std::fs::{File, OpenOptions, TryLockError};
 use std::io::ErrorKind;
-use std::net::Net;
-use std::rt::{Clock, Files};
 use std::{fs, io};
 
 /// The length of a record, in bytes.
@@ -44,10 +42,7 @@ pub struct StateFile<'a> {
 impl<'a> StateFile<'a> {
     /// Locks a state and reads it. A file that is not there tells of no packet. One that is no plain file is
     /// refused, and not opened.
-    pub fn open<R: Files<File = File> + AllocGlobal>(
-        rt: &R,
-        path: &'a str,
-    ) -> Result<StateFile<'a>, Incident<'a>> {
+    pub fn open(rt: &HostRuntime, path: &'a str) -> Result<StateFile<'a>, Incident<'a>> {
         let place = match place_of(rt, path) {
             Ok(place) => place,
             Err(reason) => return Err(unopened(path, reason)),
@@ -95,11 +90,7 @@ impl<'a> StateFile<'a> {
 
     /// Names the length of the one file to which records are added, before the first of this reader, if it is not named
     /// yet: what stands in it was counted, or is nothing that the servers hand again.
-    pub fn name_output<R: Files + AllocGlobal>(
-        &mut self,
-        rt: &R,
-        output: &'a str,
-    ) -> Result<(), Incident<'a>> {
+    pub fn name_output(&mut self, rt: &HostRuntime, output: &'a str) -> Result<(), Incident<'a>> {
         if self.before.names(ONE_FILE) {
             return Ok(());
         }
@@ -120,7 +111,7 @@ impl<'a> StateFile<'a> {
     }
 
     /// Writes what it said when the reader began.
-    fn write<R: Files + AllocGlobal>(&mut self, rt: &R) -> io::Result<()> {
+    fn write(&mut self, rt: &HostRuntime) -> io::Result<()> {
         if self.before.put_text(&mut self.text).is_err() {
             return Err(io::Error::from(ErrorKind::OutOfMemory));
         }
@@ -139,9 +130,9 @@ impl<'a> StateFile<'a> {
 
     /// The file is written anew under another name, which then takes its place. Stations that no want asks for stay in
     /// it as they are by then, and so do the lengths of files if the reader writes none.
-    fn keep<R: Files + AllocGlobal>(
+    fn keep(
         &mut self,
-        rt: &R,
+        rt: &HostRuntime,
         tally: &Tally,
         wants: &[Want<'_>],
         files: Option<&[FileLength]>,
@@ -165,11 +156,7 @@ impl<'a> StateFile<'a> {
 }
 
 /// The lock of the state at a place, that a word names: a file beside it.
-fn locked<'a, R: Files<File = File> + AllocGlobal>(
-    rt: &R,
-    place: &str,
-    path: &'a str,
-) -> Result<File, Incident<'a>> {
+fn locked<'a>(rt: &HostRuntime, place: &str, path: &'a str) -> Result<File, Incident<'a>> {
     let Ok(name) = format!(in rt.alloc(); "{place}.lock") else {
         return Err(Incident::from(Failure::OutOfMemory));
     };
@@ -203,7 +190,7 @@ fn no_state() -> io::Error {
 }
 
 /// What a state says that a reader has begun to keep; nothing if it is not there.
-fn others_at<R: Files + AllocGlobal>(rt: &R, place: &str) -> io::Result<KeptState> {
+fn others_at(rt: &HostRuntime, place: &str) -> io::Result<KeptState> {
     let text = match fs::read(rt, place) {
         Ok(text) => text,
         Err(reason) if reason.kind() == ErrorKind::NotFound => return Ok(KeptState::new(
@@ -230,11 +217,7 @@ fn unopened<'a>(path: &'a str, reason: io::Error) -> Incident<'a> {
 }
 
 /// What a state says; nothing if it is not there.
-fn state_at<'a, R: Files + AllocGlobal>(
-    rt: &R,
-    place: &str,
-    path: &'a str,
-) -> Result<KeptState, Incident<'a>> {
+fn state_at<'a>(rt: &HostRuntime, place: &str, path: &'a str) -> Result<KeptState, Incident<'a>> {
     match fs::open(rt, place) {
         Ok(file) => state_in(rt.alloc(), file, path),
         Err(reason) if reason.kind() == ErrorKind::NotFound => Ok(KeptState::new(rt.alloc())),
@@ -295,8 +278,8 @@ impl<'a> Unkept<'a> {
 /// Keeps the state of a reader in its file, if it has one, at most once a second while packets come, and once nothing
 /// came for a second after a whole packet.
 #[derive(Drop)]
-pub struct StateKeeper<'r, 'a, 'w, R: Net> {
-    rt: &'r R,
+pub struct StateKeeper<'r, 'a, 'w> {
+    rt: &'r HostRuntime,
     file: Option<Box<StateFile<'a>>>,
     wants: &'r [Want<'w>],
     /// The file to which records are added, if they are, once more.
@@ -304,7 +287,7 @@ pub struct StateKeeper<'r, 'a, 'w, R: Net> {
     /// The lengths of files when they were made to last, if files are written.
     lengths: Option<Vec<FileLength>>,
     /// The connection that is read.
-    inlet: &'r Inlet<R::Stream>,
+    inlet: &'r Inlet,
     /// What its server owes.
     patience: &'r Patience,
     /// When the state was kept last, in milliseconds.
@@ -313,16 +296,16 @@ pub struct StateKeeper<'r, 'a, 'w, R: Net> {
     failures: u64,
 }
 
-impl<'r, 'a, 'w, R: Net> StateKeeper<'r, 'a, 'w, R> {
+impl<'r, 'a, 'w> StateKeeper<'r, 'a, 'w> {
     /// A keeper that has kept nothing yet.
     pub fn new(
-        rt: &'r R,
+        rt: &'r HostRuntime,
         file: Option<Box<StateFile<'a>>>,
         wants: &'r [Want<'w>],
         output: Option<SameFile<'a>>,
-        inlet: &'r Inlet<R::Stream>,
+        inlet: &'r Inlet,
         patience: &'r Patience,
-    ) -> StateKeeper<'r, 'a, 'w, R> {
+    ) -> StateKeeper<'r, 'a, 'w> {
         StateKeeper {
             rt,
             file,
@@ -353,22 +336,21 @@ impl<'r, 'a, 'w, R: Net> StateKeeper<'r, 'a, 'w, R> {
         self.failures = self.failures.wrapping_add(1);
         Err(KeepFault)
     }
-}
 
-impl<'r, 'a, 'w, R: Clock + Net> StateKeeper<'r, 'a, 'w, R> {
     /// Milliseconds of the system's clock.
     fn now(&self) -> u64 {
         milliseconds(self.rt)
     }
-}
 
-impl<'r, 'a, 'w, R: Files + Clock + Net + AllocGlobal> StateKeeper<'r, 'a, 'w, R> {
     /// Keeps what was counted in the file, if there is one, with the lengths that files had when they were made to
     /// last.
     fn keep_in_file(&mut self, tally: &Tally) -> io::Result<()>
         ensures { self.new.failures ≡ self.old.failures }
     {
-        let lengths = self.lengths.as_ref().map(|lengths| lengths.as_slice());
+        let lengths = match &self.lengths {
+            Some(lengths) => Some(lengths.as_slice()),
+            None => None,
+        };
         match &mut self.file {
             Some(file) => file.keep(self.rt, tally, self.wants, lengths),
             None => Ok(()),
@@ -376,11 +358,7 @@ impl<'r, 'a, 'w, R: Files + Clock + Net + AllocGlobal> StateKeeper<'r, 'a, 'w, R
     }
 }
 
-impl<'r, 'a, 'w, R, P> Keeper<P> for StateKeeper<'r, 'a, 'w, R>
-where
-    R: Files + Clock + Net + AllocGlobal,
-    P: RecordSink + Lasting,
-{
+impl<P: RecordSink + Lasting> Keeper<P> for StateKeeper<'_, '_, '_> {
     ghost done = { λ _. None };
 
     ghost failures = { λ k. k.failures };

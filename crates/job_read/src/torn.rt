@@ -17,6 +17,6 @@ impl Display for TornFile<'_> {
 }
 
 /// Tells that the torn end of a file was put aside.
-pub fn tell_torn<R: Eprint>(rt: &R, path: &str) {
+pub fn tell_torn(rt: &HostRuntime, path: &str) {
     let _ = eprintln!(rt; "{}", TornFile { path });
 }

@@ -9,7 +9,6 @@ use incidents::{Failure, Incident, WantPlace, WantsFault};
 use job_base::text_at;
 use slreader::{Want, Window};
 use std::alloc::{AllocError, Global};
-use std::rt::Files;
 
 /// The text of a want, and where it stands.
 #[derive(Clone, Copy)]
@@ -19,10 +18,7 @@ struct WantText<'a, 'w> {
 }
 
 /// The text of the file of wants; empty if there is none.
-pub fn wants_text<'a, R: Files + AllocGlobal>(
-    rt: &R,
-    path: Option<&'a str>,
-) -> Result<Vec<u8>, Incident<'a>> {
+pub fn wants_text<'a>(rt: &HostRuntime, path: Option<&'a str>) -> Result<Vec<u8>, Incident<'a>> {
     match path {
         Some(path) => text_at(rt, path),
         None => Ok(Vec::new(rt.alloc())),
@@ -103,9 +99,9 @@ fn each_of<'a, 'w>(
     let mut wants = Vec::new(alloc);
     for text in texts {
         let want = want_of(alloc, text, window)?;
-        wants
-            .push(want)
-            .map_err(|_| Incident::from(Failure::OutOfMemory))?;
+        if wants.push(want).is_err() {
+            return Err(Incident::from(Failure::OutOfMemory));
+        }
     }
     Ok(wants)
 }

@@ -20,7 +20,7 @@ fn missing(limit: u64, most: usize) -> Option<u64>
 
 /// Says on the standard error if the system's limit of descriptors is below what a server with so many clients may
 /// need.
-pub fn tell_missing<R: Eprint>(rt: &R, most: usize)
+pub fn tell_missing(rt: &HostRuntime, most: usize)
     requires { most ≤ 10000 }
 {
     let Some(limit) = descriptor_limit() else {

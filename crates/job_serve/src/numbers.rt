@@ -12,11 +12,11 @@ use catalog::{Config, ConfigFault, KeptNumber};
 use incidents::{Failure, Incident, NumbersFault, Site};
 use job_base::replace;
 use number_file::{NumberTable, read_numbers};
-use serving::{NumbersAhead, ServeFault};
+use protocol::reason::Reason;
+use serving::NumbersAhead;
 use sl_io::{Outer, ReadFault, read_all};
 use std::alloc::{AllocError, Global};
 use std::fs::{File, OpenOptions, TryLockError};
-use std::rt::Files;
 use std::{fs, io};
 
 /// A file of numbers: what it said when the server began, and what it is to say.
@@ -38,8 +38,8 @@ pub struct NumberFile<'a> {
 impl<'a> NumberFile<'a> {
     /// Locks a file of numbers, reads it, and has the stations of a configuration begin with them. One that is not
     /// there has none.
-    pub fn open<R: Files<File = File> + AllocGlobal>(
-        rt: &R,
+    pub fn open(
+        rt: &HostRuntime,
         path: &'a str,
         config: &mut Config,
     ) -> Result<NumberFile<'a>, Incident<'a>> {
@@ -84,9 +84,9 @@ impl<'a> NumberFile<'a> {
 
     /// Keeps the numbers of a server's stations: the file is written anew under another name, which then takes its
     /// place. It takes no memory once it was written.
-    pub fn keep<R: Files>(
+    pub fn keep(
         &mut self,
-        rt: &R,
+        rt: &HostRuntime,
         numbers: &NumbersAhead<'_>,
     ) -> Result<(), Incident<'a>> {
         set_numbers(&mut self.table, numbers);
@@ -101,7 +101,7 @@ impl<'a> NumberFile<'a> {
         ) {
             Ok(()) => Ok(()),
             Err(reason) => Err(Incident {
-                failure: Failure::Serve(ServeFault::Numbers),
+                failure: Failure::Of(Reason::Numbers),
                 site: Site::Unwritten(self.path, reason),
             }),
         }
@@ -133,7 +133,7 @@ fn unopened<'a>(path: &'a str, reason: io::Error) -> Incident<'a> {
 
 /// Where the file is that a word names: if that is a symbolic link, the file to which it points. It fails if that is no
 /// plain file.
-fn place_of<'a, R: Files + AllocGlobal>(rt: &R, path: &'a str) -> Result<String, Incident<'a>> {
+fn place_of<'a>(rt: &HostRuntime, path: &'a str) -> Result<String, Incident<'a>> {
     match fs::metadata(rt, path) {
         Ok(found) if found.is_file() => target_of(rt, path),
         Ok(_) => Err(Failure::Numbers(NumbersFault::Special).in_file(path)),
@@ -143,7 +143,7 @@ fn place_of<'a, R: Files + AllocGlobal>(rt: &R, path: &'a str) -> Result<String,
 }
 
 /// Where a file is that is there.
-fn target_of<'a, R: Files + AllocGlobal>(rt: &R, path: &'a str) -> Result<String, Incident<'a>> {
+fn target_of<'a>(rt: &HostRuntime, path: &'a str) -> Result<String, Incident<'a>> {
     match fs::canonicalize(rt, path) {
         Ok(place) => Ok(place.into_string()),
         Err(reason) => Err(unopened(path, reason)),
@@ -151,7 +151,7 @@ fn target_of<'a, R: Files + AllocGlobal>(rt: &R, path: &'a str) -> Result<String
 }
 
 /// Where a file is to be that is not there: not at a symbolic link to nothing, of which only a name is known.
-fn new_place<'a, R: Files + AllocGlobal>(rt: &R, path: &'a str) -> Result<String, Incident<'a>> {
+fn new_place<'a>(rt: &HostRuntime, path: &'a str) -> Result<String, Incident<'a>> {
     if fs::symlink_metadata(rt, path).is_ok() {
         return Err(Failure::Numbers(NumbersFault::Special).in_file(path));
     }
@@ -162,11 +162,7 @@ fn new_place<'a, R: Files + AllocGlobal>(rt: &R, path: &'a str) -> Result<String
 }
 
 /// The lock of the file of numbers at a place, that a word names: a file beside it.
-fn locked<'a, R: Files<File = File> + AllocGlobal>(
-    rt: &R,
-    place: &str,
-    path: &'a str,
-) -> Result<File, Incident<'a>> {
+fn locked<'a>(rt: &HostRuntime, place: &str, path: &'a str) -> Result<File, Incident<'a>> {
     let Ok(name) = format!(in rt.alloc(); "{place}.lock") else {
         return Err(Incident::from(Failure::OutOfMemory));
     };
@@ -186,8 +182,8 @@ fn locked<'a, R: Files<File = File> + AllocGlobal>(
 }
 
 /// The numbers in a file; none if it is not there.
-fn kept_at<'a, R: Files + AllocGlobal>(
-    rt: &R,
+fn kept_at<'a>(
+    rt: &HostRuntime,
     place: &str,
     path: &'a str,
 ) -> Result<Vec<KeptNumber>, Incident<'a>> {

@@ -13,8 +13,6 @@ use incidents::{Failure, Incident};
 use job_base::{ServerAddress, config_in, plain_at, server_of, tell_unknown_keys, text_at};
 use ports_socket::Admission;
 use std::alloc::Global;
-use std::fs::File;
-use std::rt::Files;
 
 /// Where a server is to be, and whom it takes.
 #[derive(Drop)]
@@ -64,8 +62,8 @@ pub struct ServedFiles<'a> {
 
 /// Reads the files that the words name. The keys of the configuration that are not known are named. A configuration
 /// that is to be read again has to be a plain file. Where the words name a file of numbers, they are kept there.
-pub fn served_by<'a, R: Files<File = File> + Eprint + AllocGlobal>(
-    rt: &R,
+pub fn served_by<'a>(
+    rt: &HostRuntime,
     options: &ServeOptions<'a>,
 ) -> Result<Served<'a>, Incident<'a>>
     ensures { IfOk result (λ served. is_some served.files.numbers ≡ is_some options.now.numbers) }
@@ -95,8 +93,8 @@ pub fn served_by<'a, R: Files<File = File> + Eprint + AllocGlobal>(
 }
 
 /// The file of numbers that a word names, with which a configuration begins.
-fn numbers_at<'a, R: Files<File = File> + AllocGlobal>(
-    rt: &R,
+fn numbers_at<'a>(
+    rt: &HostRuntime,
     path: &'a str,
     config: &mut Config,
 ) -> Result<Box<NumberFile<'a>>, Incident<'a>> {
@@ -107,8 +105,8 @@ fn numbers_at<'a, R: Files<File = File> + AllocGlobal>(
 }
 
 /// The configuration and its text. Keys of it that are not known are named.
-fn configured<'a, R: Files<File = File> + Eprint + AllocGlobal>(
-    rt: &R,
+fn configured<'a>(
+    rt: &HostRuntime,
     options: &ServeOptions<'a>,
 ) -> Result<(Config, Vec<u8>), Incident<'a>> {
     let path = options.config;

@@ -3,8 +3,9 @@ ghost use Rattle.std.specs.Prelude.{◌≡◌, ◌∷◌, [], None, IfErr, IfOk}
 ghost use Rattle.serving.specs.Asked.{Tells};
 ghost use Rattle.serving.specs.Asked.Asked.{Looks, Refuses};
 ghost use Rattle.serving.specs.Paces.{IsPaced};
-ghost use Rattle.serving.specs.declared.faults.ServeFault.TheVariants.{Poll};
-ghost use Rattle.incidents.specs.declared.failure.Failure.TheVariants.{Serve};
+ghost use Rattle.serving.specs.Faults.{serve_reason};
+ghost use Rattle.protocol.specs.declared.reason.Reason.TheVariants.{Poll};
+ghost use Rattle.incidents.specs.declared.failure.Failure.TheVariants.{Of};
 ghost use Rattle.job_serve.specs.Serving.{ServedByFile, EndedByFile};
 ghost use Rattle.job_serve.specs.Timetables.{timetable_of};
 ghost use Rattle.incidents.specs.declared.incident.Incident.{Incident};
@@ -19,7 +20,7 @@ use crate::visits::{SharedLines, micros_of};
 use catalog::Config;
 use command_line::ServeOptions;
 use config_explained::{Difference, first_difference};
-use error_lines::{Device, ErrorLine};
+use error_lines::ErrorLine;
 use event_loop::Loop;
 use incidents::{Failure, Incident, Site, ToldIncident};
 use job_base::{config_in, plain_text_at, refuse_unknown, unknown_lines};
@@ -29,8 +30,7 @@ use serving::{
 };
 use std::alloc::Global;
 use std::fmt::Write;
-use std::fs::File;
-use std::rt::{Clock, Files};
+use std::rt::Clock;
 use std::time::Duration;
 
 /// What `serve` is asked.
@@ -51,11 +51,11 @@ enum LastKeep {
     Failed,
 }
 
-/// The files of a configuration and of numbers, and lines to a device that never waits: whoever reads them can't stop
-/// the server.
+/// The files of a configuration and of numbers, and lines to standard error, which never wait: whoever reads them can't
+/// stop the server.
 #[derive(Drop)]
-pub struct Operator<'r, 'a, 'l, R, D> {
-    rt: &'r R,
+pub struct Operator<'r, 'a, 'l> {
+    rt: &'r HostRuntime,
     path: &'a str,
     /// When the server began, by the system's clock, and what is done by it.
     began: Duration,
@@ -72,7 +72,7 @@ pub struct Operator<'r, 'a, 'l, R, D> {
     is_strict: bool,
     /// The lines that named such keys last, of a text that is not the one in force.
     unknown: Vec<u8>,
-    errors: &'l SharedLines<D>,
+    errors: &'l SharedLines,
     /// The status port, if there is one.
     status: Option<StatusDesk<'l>>,
     /// Whether it is told when another configuration comes into force.
@@ -84,7 +84,7 @@ pub struct Operator<'r, 'a, 'l, R, D> {
     difference: Option<Difference>,
 }
 
-impl<'r, 'a, 'l, R, D: Device> Operator<'r, 'a, 'l, R, D> {
+impl<'a> Operator<'_, 'a, '_> {
     /// Tells an incident that ends nothing.
     fn tell(&mut self, incident: &Incident<'_>) {
         self.errors.write_line(&line_of(incident, self.is_verbose));
@@ -148,21 +148,18 @@ impl<'r, 'a, 'l, R, D: Device> Operator<'r, 'a, 'l, R, D> {
 
 /// The want of memory for a server.
 pub fn no_memory<'a>() -> Incident<'a> {
-    Incident {
-        failure: Failure::Serve(ServeFault::OutOfMemory),
-        site: Site::Unnamed,
-    }
+    Incident::from(Failure::OutOfMemory)
 }
 
-impl<'r, 'a, 'l, R: Files<File = File> + Clock + AllocGlobal, D> Operator<'r, 'a, 'l, R, D> {
+impl<'r, 'a, 'l> Operator<'r, 'a, 'l> {
     /// An operator that begins with a configuration now.
     fn new(
-        rt: &'r R,
+        rt: &'r HostRuntime,
         request: ServeRequest<'a>,
         files: ServedFiles<'a>,
-        errors: &'l SharedLines<D>,
+        errors: &'l SharedLines,
         status: Option<StatusDesk<'l>>,
-    ) -> Operator<'r, 'a, 'l, R, D> {
+    ) -> Operator<'r, 'a, 'l> {
         let options = request.options;
         let ServedFiles {
             in_force,
@@ -190,25 +187,21 @@ impl<'r, 'a, 'l, R: Files<File = File> + Clock + AllocGlobal, D> Operator<'r, 'a
             difference: None,
         }
     }
-}
 
-impl<'r, 'a, 'l, R, D> Operator<'r, 'a, 'l, R, D> {
     /// What ended a run, and where, if that is known.
     fn incident_of(self, fault: ServeFault) -> Incident<'a>
-        ensures { result.failure ≡ Serve fault }
+        ensures { result.failure ≡ Of (serve_reason fault) }
     {
         let unkept = self.unkept;
         Incident {
-            failure: Failure::Serve(fault),
+            failure: Failure::Of(fault.reason()),
             site: match fault {
                 ServeFault::Numbers => unkept,
                 _ => Site::Unnamed,
             },
         }
     }
-}
 
-impl<'r, 'a, 'l, R: Clock, D> Operator<'r, 'a, 'l, R, D> {
     /// How many milliseconds have passed since the server began, if the system can tell the time.
     fn passed(&self) -> Option<u64> {
         match self.rt.monotonic() {
@@ -238,7 +231,7 @@ fn line_of(incident: &Incident<'_>, is_verbose: bool) -> ErrorLine {
     line
 }
 
-impl<'r, 'a, 'l, R: Files<File = File> + AllocGlobal, D: Device> Operator<'r, 'a, 'l, R, D> {
+impl<'a> Operator<'_, 'a, '_> {
     /// The text of the configuration as it is now.
     fn read_text(&mut self) -> Result<Vec<u8>, Incident<'a>> {
         self.spare.let_go();
@@ -283,8 +276,7 @@ impl<'r, 'a, 'l, R: Files<File = File> + AllocGlobal, D: Device> Operator<'r, 'a
     }
 }
 
-impl<'r, 'a, 'l, R: Files<File = File> + Clock + AllocGlobal, D: Device> Between
-    for Operator<'r, 'a, 'l, R, D> {
+impl<'a> Between for Operator<'_, 'a, '_> {
     type Fault = Incident<'a>;
 
     // What a clock tells, a file holds and the standard error takes, no contract can say.
@@ -359,25 +351,19 @@ impl<'r, 'a, 'l, R: Files<File = File> + Clock + AllocGlobal, D: Device> Between
 }
 
 /// Runs a new server with the configuration that was read from a file over ports, as the words say and its files did,
-/// with lines to a device and a status port, if there is one, and gives the ports back.
-pub fn serve_by<
-    'a,
-    'l,
-    R: Files<File = File> + Clock + AllocGlobal,
-    P: Ports + Drop,
-    D: Device + Drop,
->(
-    rt: &R,
+/// with lines to standard error and a status port, if there is one, and gives the ports back.
+pub fn serve_by<'a, 'l, P: Ports + Drop>(
+    rt: &HostRuntime,
     request: ServeRequest<'a>,
     config: Config,
     files: ServedFiles<'a>,
     ports: P,
-    errors: &'l SharedLines<D>,
+    errors: &'l SharedLines,
     status: Option<StatusDesk<'l>>,
 ) -> Result<P, Incident<'a>>
     ensures served { IfOk result (λ left.
         ServedByFile (timetable_of request.entry.options) config (P.calls ports) (P.calls left)) }
-    ensures ended { IfErr result (λ incident. incident.failure ≡ Serve Poll →
+    ensures ended { IfErr result (λ incident. incident.failure ≡ Of Poll →
         EndedByFile (timetable_of request.entry.options) config (P.calls ports)) }
 {
     let timetable = timetable_of(&request.options);

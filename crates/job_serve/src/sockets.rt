@@ -7,16 +7,13 @@ use crate::operator::{ServeRequest, no_memory, serve_by};
 use crate::starting::StartLine;
 use crate::status::{StatusDesk, listen_for_status};
 use crate::visits::{SharedLines, VisitLines};
-use error_lines::{Device, StandardError};
+use error_lines::StandardError;
 use incidents::Incident;
 use job_base::ServerAddress;
 use ports_logged::LoggedPorts;
 use ports_socket::{Admission, MioPorts};
 use status_ports::StatusPorts;
 use std::alloc::AllocError;
-use std::fs::File;
-use std::net::Net;
-use std::rt::{Clock, Files};
 
 /// What a server listens on.
 #[derive(Drop)]
@@ -28,10 +25,7 @@ struct Listening<'a> {
 }
 
 /// Listens for clients and for feeds, of which those are taken that are admitted, and for whoever asks for the status.
-fn listen<'a, R: Net + AllocGlobal>(
-    rt: &R,
-    doors: ServerDoors<'a>,
-) -> Result<Listening<'a>, Incident<'a>>
+fn listen<'a>(rt: &HostRuntime, doors: ServerDoors<'a>) -> Result<Listening<'a>, Incident<'a>>
     ensures { IfOk result (λ listening. listening.ports.sockets.peers
         ≡ record { admission = doors.entry.admission; joined = 0; opened = [] }) }
 {
@@ -52,8 +46,8 @@ fn listen<'a, R: Net + AllocGlobal>(
 }
 
 /// Ports at two addresses.
-fn ports_at<'a, R: Net + AllocGlobal>(
-    rt: &R,
+fn ports_at<'a>(
+    rt: &HostRuntime,
     clients: ServerAddress<'a>,
     feeds: ServerAddress<'a>,
     admission: Admission,
@@ -70,10 +64,7 @@ fn ports_at<'a, R: Net + AllocGlobal>(
 }
 
 /// Serves clients and feeds as the words say, and then sends what was not sent yet.
-pub fn serve_sockets<'a, R: Files<File = File> + Eprint + Clock + Net + AllocGlobal>(
-    rt: &R,
-    request: ServeRequest<'a>,
-) -> Result<(), Incident<'a>> {
+pub fn serve_sockets<'a>(rt: &HostRuntime, request: ServeRequest<'a>) -> Result<(), Incident<'a>> {
     let doors = doors_of(rt.alloc(), &request.options)?;
     match Box::new(rt.alloc(), served_by(rt, &request.options)?) {
         Ok(served) => serve_doors(rt, request, doors, served),
@@ -82,8 +73,8 @@ pub fn serve_sockets<'a, R: Files<File = File> + Eprint + Clock + Net + AllocGlo
 }
 
 /// The same, where it is to be.
-fn serve_doors<'a, R: Files<File = File> + Eprint + Clock + Net + AllocGlobal>(
-    rt: &R,
+fn serve_doors<'a>(
+    rt: &HostRuntime,
     request: ServeRequest<'a>,
     doors: ServerDoors<'a>,
     served: Box<Served<'a>>,
@@ -105,21 +96,23 @@ fn room_for_visits(request: &ServeRequest<'_>, served: &Served<'_>) -> usize {
     }
 }
 
-/// Serves at ports that are listened on, with lines to a device.
-fn serve_at<'a, R: Files<File = File> + Clock + AllocGlobal, D: Device + Drop>(
-    rt: &R,
+/// Serves at ports that are listened on, with lines to standard error, and then sends what was not sent yet.
+fn serve_at<'a>(
+    rt: &HostRuntime,
     listening: Listening<'a>,
     request: ServeRequest<'a>,
     served: Box<Served<'a>>,
-    lines: &SharedLines<D>,
+    lines: &SharedLines,
 ) -> Result<(), Incident<'a>> {
     if request.options.is_logged {
         lines.tell(start_line(&listening, &served));
     }
     let Listening { ports, status, .. } = listening;
-    let mut ports = run(rt, ports, status, request, served, lines)?;
-    ports.finish();
-    Ok(())
+    match status {
+        Some(status) => serve_watched(rt, ports, status, request, served, lines),
+        None if request.options.is_logged => serve_logged(rt, ports, request, served, lines, None),
+        None => serve_unlogged(rt, ports, request, served, lines),
+    }
 }
 
 /// What is told of a server that starts: where it listens, also where the system chose the port.
@@ -133,49 +126,35 @@ fn start_line(listening: &Listening<'_>, served: &Served<'_>) -> StartLine {
     }
 }
 
-/// Serves over ports, and gives them back.
-fn run<'a, R: Files<File = File> + Clock + AllocGlobal, D: Device + Drop>(
-    rt: &R,
+/// Serves, and tells nobody who comes and goes.
+fn serve_unlogged<'a>(
+    rt: &HostRuntime,
     ports: MioPorts,
-    status: Option<Box<StatusPorts>>,
     request: ServeRequest<'a>,
     served: Box<Served<'a>>,
-    lines: &SharedLines<D>,
-) -> Result<MioPorts, Incident<'a>> {
-    match status {
-        Some(status) => run_watched(rt, ports, status, request, served, lines),
-        None => {
-            if request.options.is_logged {
-                run_logged(rt, ports, request, served, lines, None)
-            } else {
-                let Served { config, files, .. } = Box::into_inner(served);
-                serve_by(rt, request, config, files, ports, lines, None)
-            }
-        }
-    }
+    lines: &SharedLines,
+) -> Result<(), Incident<'a>> {
+    let Served { config, files, .. } = Box::into_inner(served);
+    let mut ports = serve_by(rt, request, config, files, ports, lines, None)?;
+    ports.finish();
+    Ok(())
 }
 
-/// The same, with a status port.
-fn run_watched<'a, 'l, R: Files<File = File> + Clock + AllocGlobal, D: Device + Drop>(
-    rt: &'l R,
+/// Serves with a status port.
+fn serve_watched<'a, 'l>(
+    rt: &'l HostRuntime,
     ports: MioPorts,
     status: Box<StatusPorts>,
     request: ServeRequest<'a>,
     served: Box<Served<'a>>,
-    lines: &'l SharedLines<D>,
-) -> Result<MioPorts, Incident<'a>> {
+    lines: &'l SharedLines,
+) -> Result<(), Incident<'a>> {
     let Ok(counts) = SharedCounts::new(rt.alloc(), served.config.max_connections()) else {
         return Err(no_memory());
     };
-    match StatusDesk::new(
-        rt,
-        rt.alloc(),
-        status,
-        &served,
-        request.options.silent,
-        &counts,
-    ) {
-        Ok(desk) => run_logged(rt, ports, request, served, lines, Some(desk)),
+    let silent = request.options.silent;
+    match StatusDesk::new(rt, rt.alloc(), status, &served, silent, &counts) {
+        Ok(desk) => serve_logged(rt, ports, request, served, lines, Some(desk)),
         Err(_) => Err(no_memory()),
     }
 }
@@ -185,13 +164,13 @@ const FEEDS: usize = 16;
 
 /// Ports that tell who comes and goes, and how many records of each feed were refused: in lines, if there are any, and
 /// in counts, if there are some.
-fn ports_that_log<'l, R: Clock + AllocGlobal, D: Device + Drop>(
-    rt: &'l R,
+fn ports_that_log<'l>(
+    rt: &'l HostRuntime,
     most: usize,
     ports: MioPorts,
-    lines: Option<&'l SharedLines<D>>,
+    lines: Option<&'l SharedLines>,
     counts: Option<&'l SharedCounts>,
-) -> Result<LoggedPorts<MioPorts, VisitLines<'l, R, D>>, AllocError>
+) -> Result<LoggedPorts<MioPorts, VisitLines<'l>>, AllocError>
     requires { most ≤ 10000 }
     ensures inner { IfOk result (λ logged. logged.inner ≡ ports) }
     ensures room { IfOk result (λ logged. logged.visitors.room ≡ most + 16) }
@@ -201,14 +180,14 @@ fn ports_that_log<'l, R: Clock + AllocGlobal, D: Device + Drop>(
 }
 
 /// Serves, tells who comes and goes if that is wanted, and counts it for a status port if there is one.
-fn run_logged<'a, 'l, R: Files<File = File> + Clock + AllocGlobal, D: Device + Drop>(
-    rt: &'l R,
+fn serve_logged<'a, 'l>(
+    rt: &'l HostRuntime,
     ports: MioPorts,
     request: ServeRequest<'a>,
     served: Box<Served<'a>>,
-    lines: &'l SharedLines<D>,
+    lines: &'l SharedLines,
     status: Option<StatusDesk<'l>>,
-) -> Result<MioPorts, Incident<'a>> {
+) -> Result<(), Incident<'a>> {
     let counts = match &status {
         Some(desk) => Some(desk.counts()),
         None => None,
@@ -224,6 +203,7 @@ fn run_logged<'a, 'l, R: Files<File = File> + Clock + AllocGlobal, D: Device + D
     };
     let Served { config, files, .. } = Box::into_inner(served);
     let logged = serve_by(rt, request, config, files, logged, lines, status)?;
-    let (ports, _journal) = logged.into_parts();
-    Ok(ports)
+    let (mut ports, _journal) = logged.into_parts();
+    ports.finish();
+    Ok(())
 }

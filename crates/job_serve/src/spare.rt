@@ -1,6 +1,5 @@
 //! A descriptor in reserve.
 use std::fs::{self, File};
-use std::rt::Files;
 
 /// A descriptor that is held back, so that strangers who take all others can't keep a file from being opened: without
 /// it a station that is closed by a new configuration would stay open for as long as they like.
@@ -11,7 +10,7 @@ pub struct Spare {
 
 impl Spare {
     /// One that is held, if one is free.
-    pub fn new<R: Files<File = File>>(rt: &R) -> Spare {
+    pub fn new(rt: &HostRuntime) -> Spare {
         Spare { held: null(rt) }
     }
 
@@ -21,12 +20,12 @@ impl Spare {
     }
 
     /// Takes it again, once that file is closed.
-    pub fn hold<R: Files<File = File>>(&mut self, rt: &R) {
+    pub fn hold(&mut self, rt: &HostRuntime) {
         self.held = null(rt);
     }
 }
 
 /// A file that needs nothing but a descriptor.
-fn null<R: Files<File = File>>(rt: &R) -> Option<File> {
+fn null(rt: &HostRuntime) -> Option<File> {
     fs::open(rt, "/dev/null").ok()
 }

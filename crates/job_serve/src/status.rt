@@ -16,7 +16,6 @@ use sl_time::Tick;
 use status_page::Target;
 use status_ports::{Asked, StatusPorts};
 use std::alloc::{AllocError, Global};
-use std::net::Net;
 use std::rt::Clock;
 use std::time::Duration;
 
@@ -60,8 +59,8 @@ pub fn status_door<'a>(
 }
 
 /// Listens there, if there is to be a status port.
-pub fn listen_for_status<'a, R: Net + AllocGlobal>(
-    rt: &R,
+pub fn listen_for_status<'a>(
+    rt: &HostRuntime,
     door: Option<StatusDoor<'a>>,
 ) -> Result<Option<Box<StatusPorts>>, Incident<'a>> {
     let Some(door) = door else {
@@ -74,10 +73,7 @@ pub fn listen_for_status<'a, R: Net + AllocGlobal>(
 }
 
 /// Listens where a status port is to be.
-fn listen_at<'a, R: Net + AllocGlobal>(
-    rt: &R,
-    door: StatusDoor<'a>,
-) -> Result<StatusPorts, Incident<'a>> {
+fn listen_at<'a>(rt: &HostRuntime, door: StatusDoor<'a>) -> Result<StatusPorts, Incident<'a>> {
     let StatusDoor { address, list } = door;
     match StatusPorts::listen(rt, rt.alloc(), address.endpoint.socket_address(), list) {
         Ok(ports) => Ok(ports),
@@ -128,7 +124,7 @@ fn watch_of(alloc: Global, config: &Config) -> Result<Box<Watch>, AllocError> {
 impl<'l> StatusDesk<'l> {
     /// A desk at a port that is listened on, for a server of that configuration that begins now. Only memory can lack.
     pub fn new(
-        rt: &impl Clock,
+        rt: &HostRuntime,
         alloc: Global,
         ports: Box<StatusPorts>,
         served: &Served<'_>,
@@ -169,13 +165,10 @@ impl<'l> StatusDesk<'l> {
     /// Looks at the server and at the port, at a time in milliseconds since the server began, and answers one request
     /// if there is one. It never waits.
     pub fn look<P: Ports>(&mut self, alloc: Global, now: u64, server: &Loop<P>) {
-        if self
-            .looked
-            .is_some_and(|looked| now.saturating_sub(looked) < PACE)
-        {
-            return;
+        match self.looked {
+            Some(looked) if now.saturating_sub(looked) < PACE => return,
+            _ => self.looked = Some(now),
         }
-        self.looked = Some(now);
         self.watch.note(now, server.rings());
         if let Some(asked) = self.ports.look(now) {
             self.answer(alloc, now, server, asked);

@@ -6,7 +6,7 @@ use crate::counts::SharedCounts;
 use crate::cuts::OpenClients;
 use crate::refusals::{RefusalLog, RefusedLine, RefusedText};
 use catalog::Config;
-use error_lines::{Device, ErrorLine, ErrorLines};
+use error_lines::{ErrorLine, ErrorLines, StandardError};
 use ports::RecordRefusal;
 use ports_logged::{Journal, Sent, Visit};
 use std::alloc::{AllocError, Global};
@@ -16,27 +16,29 @@ use std::net::Ipv4Addr;
 use std::rt::Clock;
 use std::time::Duration;
 
-/// Lines to a device that several parts of a server write, and which clients are open of whom they tell.
+/// Lines to standard error that several parts of a server write, and which clients are open of whom they tell.
 #[derive(Drop)]
-pub struct SharedLines<D> {
-    lines: RefCell<ErrorLines<D>>,
+pub struct SharedLines {
+    lines: RefCell<ErrorLines<StandardError>>,
     clients: RefCell<OpenClients>,
 }
 
-impl<D: Device + Drop> SharedLines<D> {
-    /// Lines to a device, of which none was dropped. There is room for so many clients. It fails only for want of
+impl SharedLines {
+    /// Lines to standard error, of which none was dropped. There is room for so many clients. It fails only for want of
     /// memory.
-    pub fn new(alloc: Global, device: D, clients: usize) -> Result<SharedLines<D>, AllocError> {
+    pub fn new(
+        alloc: Global,
+        errors: StandardError,
+        clients: usize,
+    ) -> Result<SharedLines, AllocError> {
         let clients = OpenClients::new(alloc, clients)?;
         Ok(SharedLines {
-            lines: RefCell::new(ErrorLines::new(device)),
+            lines: RefCell::new(ErrorLines::new(errors)),
             clients: RefCell::new(clients),
         })
     }
-}
 
-impl<D: Device> SharedLines<D> {
-    /// Writes a line, or drops it if the device doesn't take it at once.
+    /// Writes a line, or drops it if standard error doesn't take it at once.
     pub fn write_line(&self, line: &ErrorLine) {
         if let Ok(mut lines) = self.lines.try_borrow_mut() {
             let _is_written = lines.write_line(line);
@@ -76,24 +78,24 @@ impl<D: Device> SharedLines<D> {
 /// each cause of a feed, and for each unknown station one an hour. It counts what a status port tells of visits, if
 /// there is one.
 #[derive(Drop)]
-pub struct VisitLines<'l, R, D> {
-    rt: &'l R,
+pub struct VisitLines<'l> {
+    rt: &'l HostRuntime,
     /// None if no line is written.
-    lines: Option<&'l SharedLines<D>>,
+    lines: Option<&'l SharedLines>,
     refusals: RefusalLog,
     counts: Option<&'l SharedCounts>,
     /// When the server began, by the system's clock.
     began: Duration,
 }
 
-impl<'l, R: Clock, D> VisitLines<'l, R, D> {
+impl<'l> VisitLines<'l> {
     /// A journal that wrote and counted nothing yet. It fails only for want of memory.
     pub fn new(
-        rt: &'l R,
+        rt: &'l HostRuntime,
         alloc: Global,
-        lines: Option<&'l SharedLines<D>>,
+        lines: Option<&'l SharedLines>,
         counts: Option<&'l SharedCounts>,
-    ) -> Result<VisitLines<'l, R, D>, AllocError> {
+    ) -> Result<VisitLines<'l>, AllocError> {
         let refusals = RefusalLog::new(alloc)?;
         Ok(VisitLines {
             rt,
@@ -116,7 +118,7 @@ impl<'l, R: Clock, D> VisitLines<'l, R, D> {
 }
 
 /// The system's monotonic clock, in microseconds; 0 if it can't tell the time.
-pub fn micros_of(rt: &impl Clock) -> u64 {
+pub fn micros_of(rt: &HostRuntime) -> u64 {
     match rt.monotonic() {
         Ok(now) => u64::try_from(now.as_micros()).unwrap_or(u64::MAX),
         Err(_) => 0,
@@ -130,11 +132,11 @@ fn line_of(text: impl Display + Drop) -> ErrorLine {
     line
 }
 
-impl<'l, R: Clock, D: Device> VisitLines<'l, R, D> {
+impl VisitLines<'_> {
     /// A record of a feed was refused, of which the visit tells.
     fn write_refused(
         &mut self,
-        lines: &SharedLines<D>,
+        lines: &SharedLines,
         visit: &Visit,
         port: u64,
         refusal: RecordRefusal,
@@ -151,7 +153,7 @@ impl<'l, R: Clock, D: Device> VisitLines<'l, R, D> {
     }
 
     /// Writes the line of a visit, if one is due.
-    fn write(&mut self, lines: &SharedLines<D>, visit: &Visit) {
+    fn write(&mut self, lines: &SharedLines, visit: &Visit) {
         match visit {
             Visit::Refused {
                 port,
@@ -198,7 +200,7 @@ impl Display for CutVisit {
     }
 }
 
-impl<'l, R: Clock, D: Device> Journal for VisitLines<'l, R, D> {
+impl Journal for VisitLines<'_> {
     // What the standard error takes and shared counts hold, no contract can say.
     ghost noted = { λ _. None };
 

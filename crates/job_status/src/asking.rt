@@ -3,7 +3,7 @@ use incidents::{Failure, StatusFault};
 use sl_io::{Outer, ReadFault, read_all, write_all};
 use std::alloc::Global;
 use std::io::{Read, Write};
-use std::net::OpenStream;
+use std::net::TcpStream;
 use std::time::Duration;
 
 /// What is asked.
@@ -21,7 +21,7 @@ fn ended() -> Failure {
 }
 
 /// Asks over a connection, and gives it back.
-fn put_question<T: Write + Drop>(stream: T) -> Result<T, Failure> {
+fn put_question(stream: TcpStream) -> Result<TcpStream, Failure> {
     let mut out = Outer::new(stream);
     match write_all(&mut out, QUESTION) {
         Ok(()) => Ok(out.into_inner()),
@@ -30,7 +30,7 @@ fn put_question<T: Write + Drop>(stream: T) -> Result<T, Failure> {
 }
 
 /// Takes what is answered, to the end of the connection.
-fn take_answer<T: Read + Drop>(alloc: Global, stream: T) -> Result<Vec<u8>, Failure> {
+fn take_answer(alloc: Global, stream: TcpStream) -> Result<Vec<u8>, Failure> {
     let mut input = Outer::new(stream.take(MOST));
     match read_all(alloc, &mut input) {
         Ok(bytes) => Ok(bytes),
@@ -41,10 +41,7 @@ fn take_answer<T: Read + Drop>(alloc: Global, stream: T) -> Result<Vec<u8>, Fail
 
 /// Asks a status port for its two tables over a connection, and takes what it answers. It fails with Status Ended if
 /// nothing came for ten seconds or the connection broke off, and for want of memory.
-pub fn ask<T: OpenStream + Read + Write + Drop>(
-    alloc: Global,
-    stream: T,
-) -> Result<Vec<u8>, Failure> {
+pub fn ask(alloc: Global, stream: TcpStream) -> Result<Vec<u8>, Failure> {
     if stream
         .set_read_timeout(Some(Duration::from_secs(PATIENCE)))
         .is_err()

@@ -6,10 +6,10 @@ use incidents::{Failure, Incident};
 use job_base::{ServerAddress, connection, server_of};
 use sl_io::{Outer, StreamFault, write_all};
 use std::io;
-use std::net::Net;
+use std::net::TcpStream;
 
 /// Writes a text on the standard output.
-fn write_text<R: Print>(rt: &R, text: &[u8]) -> Result<(), Failure> {
+fn write_text(rt: &HostRuntime, text: &[u8]) -> Result<(), Failure> {
     let mut out = Outer::new(io::writer(rt));
     match write_all(&mut out, text) {
         Ok(()) => Ok(()),
@@ -18,7 +18,7 @@ fn write_text<R: Print>(rt: &R, text: &[u8]) -> Result<(), Failure> {
 }
 
 /// Writes what an answer tells. Whether a station is silent.
-fn tell_answer<R: Print + AllocGlobal>(rt: &R, bytes: &[u8]) -> Result<bool, Failure> {
+fn tell_answer(rt: &HostRuntime, bytes: &[u8]) -> Result<bool, Failure> {
     let answer = match answer_in(bytes) {
         Ok(answer) => answer,
         Err(fault) => return Err(Failure::Status(fault)),
@@ -31,16 +31,13 @@ fn tell_answer<R: Print + AllocGlobal>(rt: &R, bytes: &[u8]) -> Result<bool, Fai
 }
 
 /// Asks a server over a connection that is open, and writes what it answers. Whether a station is silent.
-fn tell_by<R: Print + Net + AllocGlobal>(rt: &R, stream: R::Stream) -> Result<bool, Failure> {
+fn tell_by(rt: &HostRuntime, stream: TcpStream) -> Result<bool, Failure> {
     let bytes = ask(rt.alloc(), stream)?;
     tell_answer(rt, bytes.as_slice())
 }
 
 /// Connects to a server, and writes what it answers. Whether a station is silent.
-fn tell_over<'a, R: Print + Net + AllocGlobal>(
-    rt: &R,
-    server: ServerAddress<'a>,
-) -> Result<bool, Incident<'a>> {
+fn tell_over<'a>(rt: &HostRuntime, server: ServerAddress<'a>) -> Result<bool, Incident<'a>> {
     let stream = connection(rt, server)?;
     match tell_by(rt, stream) {
         Ok(is_silent) => Ok(is_silent),
@@ -53,10 +50,7 @@ fn tell_over<'a, R: Print + Net + AllocGlobal>(
 /// It fails with Address if the word is no address with a port, with Connect if no connection could be made, with
 /// Status if the answer ends too early or is not that of a status port, if not all could be written, and for want of
 /// memory.
-pub fn tell_status<'a, R: Print + Net + AllocGlobal>(
-    rt: &R,
-    word: &'a str,
-) -> Result<bool, Incident<'a>> {
+pub fn tell_status<'a>(rt: &HostRuntime, word: &'a str) -> Result<bool, Incident<'a>> {
     let server = server_of(word)?;
     tell_over(rt, server)
 }

@@ -10,7 +10,7 @@ use mio::net::{TcpListener, TcpStream};
 use mio::{Interest, Poll};
 use std::io;
 use std::io::ErrorKind;
-use std::net::{Net, SocketAddr, SocketAddrV4};
+use std::net::{SocketAddr, SocketAddrV4};
 
 /// How many connections that ended before they were taken are passed over at once.
 const ABORTED: u8 = 64;
@@ -41,7 +41,7 @@ pub struct Listeners {
 }
 
 fn listen_on(
-    rt: &impl Net,
+    rt: &HostRuntime,
     poll: &Poll,
     address: SocketAddrV4,
     kind: PeerKind,
@@ -87,7 +87,7 @@ impl Listener {
 
 impl Listeners {
     pub fn listen(
-        rt: &impl Net,
+        rt: &HostRuntime,
         poll: &Poll,
         clients: SocketAddrV4,
         feeds: SocketAddrV4,

@@ -25,7 +25,7 @@ use crate::sockets::Sockets;
 use ports::{Decision, Got, Happening, PortFault, Ports, Put};
 use ports_logged::{Away, Doors};
 use std::alloc::Global;
-use std::net::{Ipv4Addr, Net, SocketAddrV4};
+use std::net::{Ipv4Addr, SocketAddrV4};
 
 /// Ports over sockets. They tell nothing of their calls.
 #[derive(Drop)]
@@ -44,7 +44,7 @@ impl MioPorts {
     /// It fails with OutOfMemory only if there is no memory, and else with the address that can't be listened on and
     /// what the system says of it.
     pub fn listen(
-        rt: &impl Net,
+        rt: &HostRuntime,
         alloc: Global,
         clients: SocketAddrV4,
         feeds: SocketAddrV4,
@@ -58,7 +58,7 @@ impl MioPorts {
 
     /// The same, but takes the connections that are admitted alone: the others are closed with no byte.
     pub fn listen_to(
-        rt: &impl Net,
+        rt: &HostRuntime,
         alloc: Global,
         clients: SocketAddrV4,
         feeds: SocketAddrV4,

@@ -15,7 +15,6 @@ use mio::{Events, Interest, Poll, Token};
 use ports::PortFault;
 use std::alloc::{AllocError, Global};
 use std::collections::VecDeque;
-use std::net::Net;
 use std::time::Duration;
 
 /// How many events one poll gives at most.
@@ -72,7 +71,7 @@ pub struct Polling {
 }
 
 impl Polling {
-    pub fn new(rt: &impl Net, alloc: Global) -> Result<Polling, ListenError> {
+    pub fn new(rt: &HostRuntime, alloc: Global) -> Result<Polling, ListenError> {
         let events = Events::with_capacity(alloc, EVENTS).map_err(|_| ListenError::OutOfMemory)?;
         let happened = Vec::with_capacity(alloc, EVENTS).map_err(|_| ListenError::OutOfMemory)?;
         let poll = Poll::new(rt).map_err(ListenError::Clients)?;

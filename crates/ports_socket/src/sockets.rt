@@ -28,7 +28,7 @@ use crate::readiness::{PortNews, Readiness};
 use mio::event::Event;
 use ports::{Got, Happening, PortFault, Put};
 use std::alloc::{AllocError, Global};
-use std::net::{Net, SocketAddrV4};
+use std::net::SocketAddrV4;
 
 /// How long a poll waits, in milliseconds, if there is nothing to be done.
 const WAIT: u64 = 100;
@@ -73,7 +73,7 @@ fn buffers(alloc: Global) -> Result<(BufferPool, AheadPool), AllocError> {
 
 impl Sockets {
     pub fn listen(
-        rt: &impl Net,
+        rt: &HostRuntime,
         alloc: Global,
         clients: SocketAddrV4,
         feeds: SocketAddrV4,

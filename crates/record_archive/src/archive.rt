@@ -17,8 +17,6 @@ use continued_files::{ContinuedFiles, FileLength, FolderFault, RecordFiles};
 use disk_files::{DiskFiles, FileFailure};
 use mseed_header::Header;
 use std::alloc::Global;
-use std::fs::File;
-use std::rt::{Clock, Files};
 
 /// An archive of some stations in folders. A record is put into its file if it is of one of the stations. Memory is
 /// taken only for streams of which no record came before, or none of that day.
@@ -96,7 +94,7 @@ impl<F: RecordFiles> Archive<ContinuedFiles<F>> {
     }
 }
 
-impl<'a, R: Files<File = File> + Clock> Archive<ContinuedFiles<DiskFiles<'a, R>>> {
+impl Archive<ContinuedFiles<DiskFiles<'_>>> {
     /// Records of another piece come next. Of each file it is looked then whether its path still names it.
     pub fn begin(&mut self) {
         self.folders.files_mut().begin();

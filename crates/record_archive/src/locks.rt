@@ -6,7 +6,6 @@ use crate::stations::StationCodes;
 use std::alloc::Global;
 use std::fs::{self, File, OpenOptions, TryLockError};
 use std::io::{self, ErrorKind};
-use std::rt::Files;
 
 /// Why nothing can be put below a folder.
 #[derive(Drop)]
@@ -35,7 +34,7 @@ fn lock_path(alloc: Global, top: &str, codes: &StationCodes) -> Option<String> {
 }
 
 /// Refuses a file that is there and is no plain file, before it is opened: a pipe would wait for a reader.
-fn plain_or_new<R: Files>(rt: &R, path: &str) -> io::Result<()> {
+fn plain_or_new(rt: &HostRuntime, path: &str) -> io::Result<()> {
     match fs::metadata(rt, path) {
         Ok(found) if !found.is_file() => Err(io::Error::from(ErrorKind::InvalidInput)),
         _ => Ok(()),
@@ -43,13 +42,13 @@ fn plain_or_new<R: Files>(rt: &R, path: &str) -> io::Result<()> {
 }
 
 /// A file that is opened to be locked.
-fn opened_at<R: Files<File = File>>(rt: &R, path: &str) -> io::Result<File> {
+fn opened_at(rt: &HostRuntime, path: &str) -> io::Result<File> {
     plain_or_new(rt, path)?;
     OpenOptions::new().write(true).create(true).open(rt, path)
 }
 
 /// Locks a file.
-fn locked_at<R: Files<File = File>>(rt: &R, path: &str) -> Result<File, TopFault> {
+fn locked_at(rt: &HostRuntime, path: &str) -> Result<File, TopFault> {
     let file = match opened_at(rt, path) {
         Ok(file) => file,
         Err(reason) => return Err(TopFault::Unopened(reason)),
@@ -67,8 +66,8 @@ fn no_memory() -> TopFault {
 }
 
 /// Locks a station, unless it is one of those that come before it and are locked.
-fn lock_one<R: Files<File = File>>(
-    rt: &R,
+fn lock_one(
+    rt: &HostRuntime,
     alloc: Global,
     top: &str,
     before: &[StationCodes],
@@ -90,8 +89,8 @@ fn lock_one<R: Files<File = File>>(
 
 /// Locks the stations whose records are put below a folder, which is made if it is not there. It fails if somebody else
 /// has locked one of them.
-pub fn lock_stations<R: Files<File = File>>(
-    rt: &R,
+pub fn lock_stations(
+    rt: &HostRuntime,
     alloc: Global,
     top: &str,
     stations: &[StationCodes],

@@ -5,15 +5,17 @@
 #![tactic(auto)]
 
 mod standard;
+mod statuses;
+mod work;
 
-use jobs::{Failure, failed, obey, told};
+use incidents::Failure;
 use standard::fill_closed;
+use statuses::{failed, obey, told};
 use std::process::ExitCode;
-use std::rt::Env;
 use std::{env, io};
 
 /// The words of the command line, of which the first is the program's name.
-fn given_words<R: Env + AllocGlobal>(rt: &R) -> io::Result<Vec<String>> {
+fn given_words(rt: &HostRuntime) -> io::Result<Vec<String>> {
     let words = env::args(rt)?.collect(rt.alloc())?;
     Ok(words)
 }

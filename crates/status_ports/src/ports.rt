@@ -6,7 +6,7 @@ use mio::net::{TcpListener, TcpStream};
 use status_page::{StatusRequest, StatusValue};
 use std::alloc::{AllocError, Global};
 use std::io::{self, ErrorKind, Read, Write};
-use std::net::{Net, Shutdown, SocketAddr, SocketAddrV4};
+use std::net::{Shutdown, SocketAddr, SocketAddrV4};
 
 /// How many connections there are at a time.
 const CONNECTIONS: usize = 8;
@@ -176,7 +176,7 @@ impl StatusPorts {
     /// Listens at an address, for those whom a list admits, or this machine alone without one. It fails with what the
     /// system says of the address, or for want of memory.
     pub fn listen(
-        rt: &impl Net,
+        rt: &HostRuntime,
         alloc: Global,
         address: SocketAddrV4,
         list: Option<AccessList>,

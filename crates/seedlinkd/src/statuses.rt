@@ -3,31 +3,27 @@
 ghost use Rattle.std.specs.Prelude.{◌≡◌, ◌≢◌, ◌⊎◌, false, true, map, string_bytes, IfOk, OnErr};
 ghost use Rattle.std.specs.Process.{exit_status};
 ghost use Rattle.command_line.specs.Jobs.{IsJob, IsMistake};
-ghost use Rattle.jobs.specs.Outcomes.{status_by};
+ghost use Rattle.seedlinkd.specs.Outcomes.{status_by};
 
 use crate::work::{Outcome, run_job};
 use command_line::{Request, WordsFault, read_words};
 use incidents::{Failure, Incident};
 use job_base::{is_terminal, tell_incident};
 use shown_lines::ShownText;
-use std::fs::File;
-use std::net::Net;
-use std::os::fd::AsRawFd;
 use std::process::ExitCode;
-use std::rt::{Clock, Files};
 
 /// The status of words that the program does not take.
 const REFUSED: u8 = 2;
 
 /// Tells a failure, in the line `seedlinkd: N Name` of the standard error. The status is 1.
-pub fn failed<R: Eprint>(rt: &R, failure: Failure) -> ExitCode
+pub fn failed(rt: &HostRuntime, failure: Failure) -> ExitCode
     ensures { exit_status result ≡ 1 }
 {
     failed_at(rt, Incident::from(failure), false)
 }
 
 /// Tells a failure as `failed` does, and on request explains it. The status is 1.
-fn failed_at<R: Eprint>(rt: &R, incident: Incident<'_>, is_verbose: bool) -> ExitCode
+fn failed_at(rt: &HostRuntime, incident: Incident<'_>, is_verbose: bool) -> ExitCode
     ensures { exit_status result ≡ 1 }
 {
     tell_incident(rt, incident, is_verbose);
@@ -36,11 +32,7 @@ fn failed_at<R: Eprint>(rt: &R, incident: Incident<'_>, is_verbose: bool) -> Exi
 
 /// The status of a job: 0 if it was done, 1 if it found a silent station, and 1 at a fault, which is reported, and on
 /// request explained.
-fn status_of<R: Eprint>(
-    rt: &R,
-    outcome: Result<Outcome, Incident<'_>>,
-    is_verbose: bool,
-) -> ExitCode
+fn status_of(rt: &HostRuntime, outcome: Result<Outcome, Incident<'_>>, is_verbose: bool) -> ExitCode
     ensures done { IfOk outcome.entry (λ o. exit_status result ≡ status_by o) }
     ensures fault { OnErr outcome.entry (exit_status result ≡ 1) }
 {
@@ -53,7 +45,7 @@ fn status_of<R: Eprint>(
 
 /// Tells the user how words are taken: help on the standard output, or a mistake on the standard error. The status is 2
 /// for a mistake. For help it is 0, or 1 where that could not be written.
-pub fn told<R: Print + Eprint>(rt: &R, text: &str, is_help: bool) -> ExitCode
+pub fn told(rt: &HostRuntime, text: &str, is_help: bool) -> ExitCode
     ensures mistake { is_help ≡ false → exit_status result ≡ 2 }
     ensures help { is_help ≡ true → exit_status result ≢ 2 }
 {
@@ -70,12 +62,7 @@ pub fn told<R: Print + Eprint>(rt: &R, text: &str, is_help: bool) -> ExitCode
 /// Does the job that the words of a command line ask, of which the first is the program's name. If they are a job, the
 /// status is 0 or 1, as `status_of` has it, or 1 if memory for the words ran out. It is never 0 if they are a mistake.
 /// A fault is explained if the words ask for that, or if standard error is a terminal.
-pub fn obey<R: Files<File = File> + Print + Eprint + Clock + Net + AllocGlobal>(
-    rt: &R,
-    words: &[String],
-) -> ExitCode
-where
-    R::File: AsRawFd,
+pub fn obey(rt: &HostRuntime, words: &[String]) -> ExitCode
     ensures job { IsJob (map string_bytes words.now) → (exit_status result ≡ 0) ⊎ (exit_status result ≡ 1) }
     ensures mistake { IsMistake (map string_bytes words.now) → exit_status result ≢ 0 }
 {

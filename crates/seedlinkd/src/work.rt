@@ -1,8 +1,8 @@
 //! What is done for each job.
 ghost use Rattle.std.specs.Prelude.{◌≡◌, IfOk, IsErr, Ok, OnErr, OnOk};
-ghost use Rattle.jobs.specs.Outcomes.{outcome_of};
-ghost use Rattle.jobs.specs.Words.{style_by};
-ghost use Rattle.jobs.specs.declared.work.Outcome.TheVariants.{Done};
+ghost use Rattle.seedlinkd.specs.Outcomes.{outcome_of};
+ghost use Rattle.seedlinkd.specs.Words.{style_by};
+ghost use Rattle.seedlinkd.specs.declared.work.Outcome.TheVariants.{Done};
 
 use command_line::Job;
 use incidents::Incident;
@@ -12,10 +12,6 @@ use job_feed::feed_files;
 use job_read::read_servers;
 use job_serve::{ServeRequest, serve_sockets};
 use job_status::tell_status;
-use std::fs::File;
-use std::net::Net;
-use std::os::fd::AsRawFd;
-use std::rt::{Clock, Files};
 
 /// How a replay writes what happens, by whether `--text` was given.
 fn style_of(is_text: bool) -> ReplayStyle
@@ -58,14 +54,11 @@ fn looked<'a>(is_silent: Result<bool, Incident<'a>>) -> Result<Outcome, Incident
 }
 
 /// Does what a job asks. With `is_verbose`, or at a terminal, faults that don't end a server are explained.
-pub fn run_job<'a, R: Files<File = File> + Print + Eprint + Clock + Net + AllocGlobal>(
-    rt: &R,
+pub fn run_job<'a>(
+    rt: &HostRuntime,
     job: Job<'a>,
     is_verbose: bool,
-) -> Result<Outcome, Incident<'a>>
-where
-    R::File: AsRawFd,
-{
+) -> Result<Outcome, Incident<'a>> {
     match job {
         Job::Check { files, options } => done(check_files(rt, files.as_slice(), options)),
         Job::Replay {

@@ -1,7 +1,7 @@
 -- What a job that was done came to, and the exit status.
 use Rattle.std.specs.Prelude.{ℕ, Bool, true, false}
-use Rattle.jobs.specs.declared.work.Outcome.{Outcome}
-use Rattle.jobs.specs.declared.work.Outcome.TheVariants.{Done, Silent}
+use Rattle.seedlinkd.specs.declared.work.Outcome.{Outcome}
+use Rattle.seedlinkd.specs.declared.work.Outcome.TheVariants.{Done, Silent}
 
 -- what a look at a server comes to, by whether a station is silent
 abbrev pub outcome_of : Bool → Outcome
