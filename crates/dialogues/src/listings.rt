@@ -111,7 +111,7 @@ fn options_of(word: &str) -> Option<ListingOptions> {
 }
 
 /// What stands in files, whose names a comma separates.
-fn files_of<R: Files + AllocGlobal>(rt: &R, names: &str) -> Result<Vec<Vec<u8>>, Fault> {
+fn files_of(rt: &HostRuntime, names: &str) -> Result<Vec<Vec<u8>>, Fault> {
     let mut files = Vec::new(rt.alloc());
     for name in names.split(',') {
         files.push(fs::read(rt, name)?)?;
@@ -120,7 +120,7 @@ fn files_of<R: Files + AllocGlobal>(rt: &R, names: &str) -> Result<Vec<Vec<u8>>,
 }
 
 /// Plays a line that is about files of records: `records FILE,FILE lines LISTING` or `records FILE fault 4 2 512`.
-pub fn play_records<R: Files + AllocGlobal>(rt: &R, line: &DialogueLine) -> DialogueAnswer {
+pub fn play_records(rt: &HostRuntime, line: &DialogueLine) -> DialogueAnswer {
     let (what, rest) = word_and_rest(line.rest);
     if what == "fault" {
         let bytes = fs::read(rt, line.verb)?;

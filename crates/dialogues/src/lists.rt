@@ -6,7 +6,6 @@ use access_list::{AccessList, address};
 use catalog::Config;
 use std::alloc::Global;
 use std::fs;
-use std::rt::Files;
 
 /// Compares whether a list admits an address: `yes 10.0.0.7 10.0.0.0/8`, with the word, the address and the list.
 fn compare_admission(alloc: Global, text: &str) -> DialogueAnswer {
@@ -41,7 +40,7 @@ pub fn play_list(alloc: Global, line: &DialogueLine) -> DialogueAnswer {
 }
 
 /// Plays a line that is about the configuration of a file: `refuse 23 FILE`.
-pub fn play_config<R: Files + AllocGlobal>(rt: &R, line: &DialogueLine) -> DialogueAnswer {
+pub fn play_config(rt: &HostRuntime, line: &DialogueLine) -> DialogueAnswer {
     if line.verb != "refuse" {
         return Err(Fault::Step);
     }

@@ -63,10 +63,9 @@ use fault::Fault;
 use playing::play_file;
 use std::env;
 use std::process::ExitCode;
-use std::rt::{Env, Files};
 
 /// Plays the dialogues of the files that the command line names. Whether all are answered as they want.
-fn play_all<R: Env + Files + Print + AllocGlobal>(rt: &R) -> Result<bool, Fault> {
+fn play_all(rt: &HostRuntime) -> Result<bool, Fault> {
     let mut is_right = true;
     for (place, word) in env::args(rt)?.enumerate() {
         if place > 0 && !play_file(rt, word.as_str())? {

@@ -7,7 +7,6 @@ use crate::lists::{play_config, play_list};
 use crate::readers::DialogueReading;
 use crate::stage::DialogueStage;
 use std::fs;
-use std::rt::Files;
 
 /// The server and the reader of a dialogue, once a line has made them.
 #[derive(Drop)]
@@ -17,18 +16,14 @@ struct Scene {
 }
 
 /// A new server with the configuration of a file.
-fn set_stage<R: Files + AllocGlobal>(rt: &R, scene: &mut Scene, path: &str) -> DialogueAnswer {
+fn set_stage(rt: &HostRuntime, scene: &mut Scene, path: &str) -> DialogueAnswer {
     let new = Box::new(rt.alloc(), DialogueStage::new(rt, path)?)?;
     scene.stage = Some(new);
     Ok(None)
 }
 
 /// Plays a line at the server that the last `server config FILE` made.
-fn play_at_server<R: Files + AllocGlobal>(
-    rt: &R,
-    scene: &mut Scene,
-    line: &DialogueLine,
-) -> DialogueAnswer {
+fn play_at_server(rt: &HostRuntime, scene: &mut Scene, line: &DialogueLine) -> DialogueAnswer {
     if line.subject == "server" && line.verb == "config" {
         return set_stage(rt, scene, line.rest);
     }
@@ -39,7 +34,7 @@ fn play_at_server<R: Files + AllocGlobal>(
 }
 
 /// Plays a line that is about the reader, which `wants` makes.
-fn play_reader<R: AllocGlobal>(rt: &R, scene: &mut Scene, line: &DialogueLine) -> DialogueAnswer {
+fn play_reader(rt: &HostRuntime, scene: &mut Scene, line: &DialogueLine) -> DialogueAnswer {
     if line.verb == "wants" {
         let new = Box::new(rt.alloc(), DialogueReading::new(rt.alloc(), line.rest)?)?;
         scene.reading = Some(new);
@@ -51,11 +46,7 @@ fn play_reader<R: AllocGlobal>(rt: &R, scene: &mut Scene, line: &DialogueLine) -
     }
 }
 
-fn play_line<R: Files + AllocGlobal>(
-    rt: &R,
-    scene: &mut Scene,
-    line: &DialogueLine,
-) -> DialogueAnswer {
+fn play_line(rt: &HostRuntime, scene: &mut Scene, line: &DialogueLine) -> DialogueAnswer {
     match line.subject {
         "reader" => play_reader(rt, scene, line),
         "records" => play_records(rt, line),
@@ -66,7 +57,7 @@ fn play_line<R: Files + AllocGlobal>(
 }
 
 /// Plays a text that is a line, unless it is empty or a remark.
-fn play_text<R: Files + AllocGlobal>(rt: &R, scene: &mut Scene, text: &str) -> DialogueAnswer {
+fn play_text(rt: &HostRuntime, scene: &mut Scene, text: &str) -> DialogueAnswer {
     match line_of(text) {
         Some(line) => play_line(rt, scene, &line),
         None => Ok(None),
@@ -74,7 +65,7 @@ fn play_text<R: Files + AllocGlobal>(rt: &R, scene: &mut Scene, text: &str) -> D
 }
 
 /// Plays a text that is to be answered otherwise than it wants.
-fn play_not<R: Files + AllocGlobal>(rt: &R, scene: &mut Scene, text: &str) -> DialogueAnswer {
+fn play_not(rt: &HostRuntime, scene: &mut Scene, text: &str) -> DialogueAnswer {
     match play_text(rt, scene, text)? {
         Some(_) => Ok(None),
         None => Ok(Some(String::from_str(rt.alloc(), "just that")?)),
@@ -82,7 +73,7 @@ fn play_not<R: Files + AllocGlobal>(rt: &R, scene: &mut Scene, text: &str) -> Di
 }
 
 /// Plays texts that ` ; ` separates, up to the first answer that is not as its text wants.
-fn play_all_of<R: Files + AllocGlobal>(rt: &R, scene: &mut Scene, texts: &str) -> DialogueAnswer {
+fn play_all_of(rt: &HostRuntime, scene: &mut Scene, texts: &str) -> DialogueAnswer {
     for text in texts.split(';') {
         if let Some(got) = play_text(rt, scene, text.trim())? {
             return Ok(Some(got));
@@ -92,12 +83,7 @@ fn play_all_of<R: Files + AllocGlobal>(rt: &R, scene: &mut Scene, texts: &str) -
 }
 
 /// Plays texts so many times, up to the first answer that is not as its text wants.
-fn play_times<R: Files + AllocGlobal>(
-    rt: &R,
-    scene: &mut Scene,
-    texts: &str,
-    times: usize,
-) -> DialogueAnswer {
+fn play_times(rt: &HostRuntime, scene: &mut Scene, texts: &str, times: usize) -> DialogueAnswer {
     for _ in 0..times {
         if let Some(got) = play_all_of(rt, scene, texts)? {
             return Ok(Some(got));
@@ -107,7 +93,7 @@ fn play_times<R: Files + AllocGlobal>(
 }
 
 /// Plays a text, which may begin with `not` or with a number and `times`.
-fn play_any<R: Files + AllocGlobal>(rt: &R, scene: &mut Scene, text: &str) -> DialogueAnswer {
+fn play_any(rt: &HostRuntime, scene: &mut Scene, text: &str) -> DialogueAnswer {
     if let Some(rest) = text.strip_prefix("not ") {
         return play_not(rt, scene, rest);
     }
@@ -118,8 +104,8 @@ fn play_any<R: Files + AllocGlobal>(rt: &R, scene: &mut Scene, text: &str) -> Di
 }
 
 /// Reports what came of a line, unless it is as the line wants. Whether it is.
-fn report<R: Print + AllocGlobal>(
-    rt: &R,
+fn report(
+    rt: &HostRuntime,
     name: &str,
     number: usize,
     line: &str,
@@ -135,12 +121,7 @@ fn report<R: Print + AllocGlobal>(
 
 /// Plays the lines of a dialogue up to the first that is not answered as it wants, which is reported. Whether there is
 /// none.
-fn play_lines<R: Files + Print + AllocGlobal>(
-    rt: &R,
-    scene: &mut Scene,
-    name: &str,
-    text: &str,
-) -> Result<bool, Fault> {
+fn play_lines(rt: &HostRuntime, scene: &mut Scene, name: &str, text: &str) -> Result<bool, Fault> {
     for (place, line) in text.lines().enumerate() {
         let answer = play_any(rt, scene, line);
         if !report(rt, name, place.saturating_add(1), line, answer)? {
@@ -152,13 +133,13 @@ fn play_lines<R: Files + Print + AllocGlobal>(
 }
 
 /// Reports that a file can't be played.
-fn report_file<R: Print + AllocGlobal>(rt: &R, path: &str, fault: Fault) -> Result<bool, Fault> {
+fn report_file(rt: &HostRuntime, path: &str, fault: Fault) -> Result<bool, Fault> {
     println!(rt; "{path}: {}", fault.words())?;
     Ok(false)
 }
 
 /// Plays the dialogue of a file. Whether all is answered as it wants.
-pub fn play_file<R: Files + Print + AllocGlobal>(rt: &R, path: &str) -> Result<bool, Fault> {
+pub fn play_file(rt: &HostRuntime, path: &str) -> Result<bool, Fault> {
     let mut scene = Scene {
         stage: None,
         reading: None,

@@ -9,7 +9,6 @@ use server_core::{Client, Server};
 use sl_packet::Seq;
 use std::alloc::Global;
 use std::fs;
-use std::rt::Files;
 
 /// A server, and who and what has come to it, by their names.
 #[derive(Drop)]
@@ -21,7 +20,7 @@ pub struct DialogueStage {
 }
 
 /// The configuration of a file.
-fn config_in<R: Files + AllocGlobal>(rt: &R, path: &str) -> Result<Config, Fault> {
+fn config_in(rt: &HostRuntime, path: &str) -> Result<Config, Fault> {
     let text = fs::read(rt, path)?;
     let config = Config::read(rt.alloc(), text.as_slice())?;
     Ok(config)
@@ -29,7 +28,7 @@ fn config_in<R: Files + AllocGlobal>(rt: &R, path: &str) -> Result<Config, Fault
 
 impl DialogueStage {
     /// A new server with the configuration of a file.
-    pub fn new<R: Files + AllocGlobal>(rt: &R, path: &str) -> Result<DialogueStage, Fault> {
+    pub fn new(rt: &HostRuntime, path: &str) -> Result<DialogueStage, Fault> {
         let config = config_in(rt, path)?;
         let server = Server::new(rt.alloc(), config)?;
         Ok(DialogueStage {
@@ -41,7 +40,7 @@ impl DialogueStage {
     }
 
     /// The configuration of a file is read again, and refused with a number; 0 where it is taken.
-    fn reload<R: Files + AllocGlobal>(&mut self, rt: &R, path: &str, wanted: u8) -> DialogueAnswer {
+    fn reload(&mut self, rt: &HostRuntime, path: &str, wanted: u8) -> DialogueAnswer {
         let config = config_in(rt, path)?;
         let got = match self.server.reload(config) {
             Ok(()) => 0,
@@ -51,11 +50,7 @@ impl DialogueStage {
     }
 
     /// What is done to the server.
-    fn play_server<R: Files + AllocGlobal>(
-        &mut self,
-        rt: &R,
-        line: &DialogueLine,
-    ) -> DialogueAnswer {
+    fn play_server(&mut self, rt: &HostRuntime, line: &DialogueLine) -> DialogueAnswer {
         match line.verb {
             "reload" => self.reload(rt, line.rest, 0),
             "refuse" => {
@@ -169,7 +164,7 @@ impl DialogueStage {
     }
 
     /// Plays a line.
-    pub fn play<R: Files + AllocGlobal>(&mut self, rt: &R, line: &DialogueLine) -> DialogueAnswer {
+    pub fn play(&mut self, rt: &HostRuntime, line: &DialogueLine) -> DialogueAnswer {
         if line.subject == "server" {
             self.play_server(rt, line)
         } else {
