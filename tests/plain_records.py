@@ -61,7 +61,8 @@ class Record:
             self.type = "D" if factor else "L"
         else:
             self.type = next((TYPES[kind] for _, kind in chain if kind in TYPES), "D")
-        self.station, self.location, self.channel, self.network = data[8:13].rstrip(b" "), data[13:15], data[15:18], data[18:20].rstrip(b" ")
+        self.network, self.station = data[18:20].rstrip(b" "), data[8:13].rstrip(b" ")
+        self.location, self.channel = data[13:15], data[15:18]
 
     def has_date(self, order):
         year, day = struct.unpack_from(order + "HH", self.data, 20)
@@ -150,7 +151,8 @@ def drawn(draw):
         put(record, order, 20, number(1899, 2101, 2024), number(0, 367, 60))
     else:
         put(record, order, 20, number(1900, 1969, 1970, 2000, 2024, 2056, 2100), number(1, 60, 256, 257, 365, 366))
-    record[24:27] = draw.choice((b"\x18\0\0", b"\0\x3c\0", b"\0\0\x3d")) if one_of(12) else draw.choice((b"\0\0\0", b"\x17\x3b\x3c", b"\x0c\x1e\x0f"))
+    late, times = (b"\x18\0\0", b"\0\x3c\0", b"\0\0\x3d"), (b"\0\0\0", b"\x17\x3b\x3c", b"\x0c\x1e\x0f")
+    record[24:27] = draw.choice(late if one_of(12) else times)
     put(record, order, 28, 10_000 if one_of(20) else number(0, 5000, 9999), number(0, 1, 100, 412, 65_535))
     put(record, order, 32, number(0, 1, 3, 100, 32_767, 32_768, 65_526), number(0, 1, 7, 32_767, 32_768, 65_533))
     at = number(0, 47, 500, 504, 505, 508, 509) if one_of(6) else number(48, 48, 56, 64)

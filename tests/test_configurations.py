@@ -4,7 +4,8 @@ import kit
 
 # The lines of a configuration with one station, each under a word of its own.
 LINES = [
-    ("title", 'title = "Test Centre"'), ("access", 'access = "0.0.0.0/0"'), ("max_connections", "max_connections = 8"), ("station", "[[station]]"),
+    ("title", 'title = "Test Centre"'), ("access", 'access = "0.0.0.0/0"'), ("max_connections", "max_connections = 8"),
+    ("station", "[[station]]"),
     ("network", 'network = "GE"'), ("code", 'code = "APE"'), ("description", 'description = "Island"'), ("capacity", "capacity = 4"),
     ("first", 'first = "000000"'), ("own access", 'access = "10.0.0.0/8"'),
 ]
@@ -26,25 +27,32 @@ KINDS = [
 ]
 LIMITS = [
     # The bytes of texts.
-    ("title", 'title = " ~"', OK), ("description", 'description = " ~"', OK), ("network", 'network = "A0"', OK), ("network", 'network = "Z9"', OK),
-    ("code", 'code = "AZ09"', OK), ("title", r'title = "a\u001fb"', LIMIT), ("title", r'title = "a\u007fb"', LIMIT), ("title", 'title = "Zürich"', LIMIT),
+    ("title", 'title = " ~"', OK), ("description", 'description = " ~"', OK), ("network", 'network = "A0"', OK),
+    ("network", 'network = "Z9"', OK),
+    ("code", 'code = "AZ09"', OK), ("title", r'title = "a\u001fb"', LIMIT), ("title", r'title = "a\u007fb"', LIMIT),
+    ("title", 'title = "Zürich"', LIMIT),
     ("description", r'description = "\t"', LIMIT), ("description", r'description = "\u007f"', LIMIT), ("network", 'network = "ge"', LIMIT),
     ("network", 'network = "G "', LIMIT), ("code", 'code = "@"', LIMIT), ("code", 'code = "["', LIMIT), ("code", 'code = "/"', LIMIT),
     ("code", 'code = ":"', LIMIT),
     # Numbers at their limits, and beyond.
     ("max_connections", "max_connections = 1", OK), ("max_connections", "max_connections = 10000", OK), ("capacity", "capacity = 1", OK),
-    ("capacity", "capacity = 65536", OK), ("max_connections", "max_connections = -1", LIMIT), ("max_connections", "max_connections = 0", LIMIT),
+    ("capacity", "capacity = 65536", OK), ("max_connections", "max_connections = -1", LIMIT),
+    ("max_connections", "max_connections = 0", LIMIT),
     ("max_connections", "max_connections = 10001", LIMIT), ("capacity", "capacity = -1", LIMIT), ("capacity", "capacity = 0", LIMIT),
     ("capacity", "capacity = 65537", LIMIT), ("capacity", "capacity = 9223372036854775807", LIMIT),
     # The number of the first record has 1 to 6 digits of either case.
-    ("first", 'first = ""', LIMIT), ("first", 'first = "0000000"', LIMIT), ("first", 'first = "00000G"', LIMIT), ("first", 'first = "0x1"', LIMIT),
+    ("first", 'first = ""', LIMIT), ("first", 'first = "0000000"', LIMIT), ("first", 'first = "00000G"', LIMIT),
+    ("first", 'first = "0x1"', LIMIT),
     ("first", 'first = " 1"', LIMIT),
 ]
 # The lengths of texts that are taken, and those that are not.
 LENGTHS = [
     ("title", (1, 100), (0, 101)), ("network", (1, 2), (0, 3)), ("code", (1, 5), (0, 6)), ("description", (0, 60), (61,)),
 ]
-LIMITS += [(key, '%s = "%s"' % (key, "X" * it), fault) for key, taken, refused in LENGTHS for fault, all in ((OK, taken), (LIMIT, refused)) for it in all]
+LIMITS += [
+    (key, '%s = "%s"' % (key, "X" * it), fault)
+    for key, taken, refused in LENGTHS for fault, counts in ((OK, taken), (LIMIT, refused)) for it in counts
+]
 # Whole texts, and the fault.
 WHOLE = [
     ("title =", TOML), (b'title = "\xff"\n', TOML), ('title "Test Centre"\n', TOML), ('title = "t"\ntitle = "t"\n', TOML),
@@ -76,23 +84,28 @@ SETTINGS = [
 ]
 # Access lists, and an address that each admits, or that it doesn't.
 ADMITTED = [
-    ("10.0.0.0/0", "172.16.0.9", True), ("10.0.0.7/32", "10.0.0.7", True), ("10.0.0.7/32", "10.0.0.8", False), ("10.0.0.7", "10.0.0.7", True),
+    ("10.0.0.0/0", "172.16.0.9", True), ("10.0.0.7/32", "10.0.0.7", True), ("10.0.0.7/32", "10.0.0.8", False),
+    ("10.0.0.7", "10.0.0.7", True),
     ("10.0.0.7", "10.0.0.8", False), ("010.000.0.7/255.255.255.255", "10.0.0.7", True), ("010.000.0.7/255.255.255.255", "10.0.0.8", False),
-    ("10.9.0.9/255.0.255.0", "10.0.0.7", True), ("10.9.0.9/255.0.255.0", "10.0.1.7", False), (", 10.0.0.7 ,,192.168.0.0/16,", "10.0.0.7", True),
+    ("10.9.0.9/255.0.255.0", "10.0.0.7", True), ("10.9.0.9/255.0.255.0", "10.0.1.7", False),
+    (", 10.0.0.7 ,,192.168.0.0/16,", "10.0.0.7", True),
     (", 10.0.0.7 ,,192.168.0.0/16,", "192.168.3.4", True), (", 10.0.0.7 ,,192.168.0.0/16,", "192.169.3.4", False), ("", "10.0.0.7", False),
     (" ", "10.0.0.7", False), (" , ,", "10.0.0.7", False), ("1.2.3.4/08", "1.9.9.9", True), ("1.2.3.4/08", "2.2.3.4", False),
 ]
 # Invalid lists, the first entry that is, and whether its address or its mask is wrong.
 ADDRESS, MASK = "address before", "mask behind"
 INVALID = [
-    ("10.0.0/8", "10.0.0/8", ADDRESS), ("256.0.0.1", "256.0.0.1", ADDRESS), ("1.2.3", "1.2.3", ADDRESS), ("1.2.3.4.5", "1.2.3.4.5", ADDRESS),
-    ("1..2.3", "1..2.3", ADDRESS), ("0001.2.3.4", "0001.2.3.4", ADDRESS), ("1.2.3.4 /8", "/8", ADDRESS), ("1.2.3.4\\t", "1.2.3.4?", ADDRESS),
+    ("10.0.0/8", "10.0.0/8", ADDRESS), ("256.0.0.1", "256.0.0.1", ADDRESS), ("1.2.3", "1.2.3", ADDRESS),
+    ("1.2.3.4.5", "1.2.3.4.5", ADDRESS),
+    ("1..2.3", "1..2.3", ADDRESS), ("0001.2.3.4", "0001.2.3.4", ADDRESS), ("1.2.3.4 /8", "/8", ADDRESS),
+    ("1.2.3.4\\t", "1.2.3.4?", ADDRESS),
     ("/8", "/8", ADDRESS), ("10.0.0.0/33", "10.0.0.0/33", MASK), ("1.2.3.4/", "1.2.3.4/", MASK), ("1.2.3.4/8/8", "1.2.3.4/8/8", MASK),
     ("1.2.3.4/008", "1.2.3.4/008", MASK), ("1.2.3.4/255.0.0", "1.2.3.4/255.0.0", MASK), ("1.2.3.4/33 1.2.3", "1.2.3.4/33", MASK),
     ("1.2.3 1.2.3.4/33", "1.2.3", ADDRESS),
 ]
 # Three stations whose codes and networks are looked for.
-FOUND = [("APE", "GE", True), ("WLF", "GE", True), ("APE", "XX", True), ("WLF", "XX", False), ("GE", "APE", False), ("AP", "GE", False), ("APE", "ge", False)]
+FOUND = [("APE", "GE", True), ("WLF", "GE", True), ("APE", "XX", True), ("WLF", "XX", False), ("GE", "APE", False), ("AP", "GE", False),
+    ("APE", "ge", False)]
 
 
 def with_line(word, line):

@@ -23,8 +23,10 @@ WORDS = [
     ("no configuration", "replay|none/at.all|nor.this", NO_FILE),
     ("a folder", "replay|/|nor.this", "44 File\n  cause: a file could not be opened\n  file: /\n  reason: Is a directory (os error 21)\n"),
     ("a host's name", "feed|localhost:18001|none/at.all",
-     "11 Address\n  cause: a word is no address with a port\n  word: localhost:18001\n  allowed: an address and a port, as 127.0.0.1:18000\n"),
-    ("a want's network", READ + "GE_WLF|GE.APE|--fetch", NO_WANT + "GE.APE\n  part: network\n  allowed: 1 to 2 of A to Z and 0 to 9, before _\n"),
+     "11 Address\n  cause: a word is no address with a port\n  word: localhost:18001\n"
+     "  allowed: an address and a port, as 127.0.0.1:18000\n"),
+    ("a want's network", READ + "GE_WLF|GE.APE|--fetch",
+     NO_WANT + "GE.APE\n  part: network\n  allowed: 1 to 2 of A to Z and 0 to 9, before _\n"),
     ("a want's station", READ + "GE_WLF|GE_|--fetch", NO_WANT + "GE_\n  part: station\n  allowed: 1 to 5 of A to Z and 0 to 9, after _\n"),
     ("a want's patterns", READ + "GE_WLF|GE_WLF:B?|--fetch",
      NO_WANT + "GE_WLF:B?\n  part: patterns\n  allowed: 1 to 64 patterns joined by commas, as BH?, 00BHZ.D or !E, after :\n"),
@@ -41,7 +43,8 @@ WORDS = [
     ("no time", READ + "GE_WLF|--fetch|--begin=29.2.2024",
      "60 Shape\n  cause: a word is no time: the text has not the shape of a time\n  word: 29.2.2024" + TIMES),
     ("no such day", READ + "GE_WLF|--fetch|--begin=2023-02-29T00:00:00Z",
-     "61 Range\n  cause: a word is no time: a number of the time is out of range, or there is no such date\n  word: 2023-02-29T00:00:00Z" + TIMES),
+     "61 Range\n  cause: a word is no time: a number of the time is out of range, or there is no such date\n"
+     "  word: 2023-02-29T00:00:00Z" + TIMES),
     ("256 wants", READ + "--fetch|--retry=1" + 256 * "|GE_APE",
      "22 Limit\n  cause: there are more WANTs than one reader can ask for\n  allowed: 1 to 255 WANTs\n"),
 ]
@@ -62,8 +65,10 @@ CONFIGURATIONS = [
     ("a code of six", ISLAND + '[[station]]\nnetwork = "XX"\ncode = "SIXSIX"\n', "  station: 2 XX\n  key: code\n" + CODE),
     ("no description", ISLAND + '[[station]]\nnetwork = "XX"\ncode = "APE"\n',
      "  station: 2 XX APE\n  key: description\n  found: nothing\n  wanted: a text\n  allowed: at most 60 bytes of printable ASCII\n"),
-    ("a first of seven digits", ISLAND + 'first = "0000000"\n', "  station: 1 GE APE\n  key: first\n  allowed: 1 to 6 hexadecimal digits\n"),
-    ("the first entry of a list", ISLAND + 'access = "10.0.0.7,, 10.0.0/8 10.0.0"\n', "  station: 1 GE APE\n  key: access\n  entry: 10.0.0/8\n" + LISTS),
+    ("a first of seven digits", ISLAND + 'first = "0000000"\n',
+     "  station: 1 GE APE\n  key: first\n  allowed: 1 to 6 hexadecimal digits\n"),
+    ("the first entry of a list", ISLAND + 'access = "10.0.0.7,, 10.0.0/8 10.0.0"\n',
+     "  station: 1 GE APE\n  key: access\n  entry: 10.0.0/8\n" + LISTS),
     ("a list as an array", ISLAND + 'access = ["10.0.0.7"]\n',
      "  station: 1 GE APE\n  key: access\n  found: an array\n  wanted: a text\n" + LISTS),
     ("two stations alike", ISLAND + APE, "  station: 2 GE APE\n  key: network and code\n  allowed: not those of an earlier station\n"),
@@ -87,7 +92,8 @@ DIFFERENCES = [
     ("a capacity and a first", TITLE + STATION % ("GE", "APE", 4) + 'first = "A"\n',
      "  station: 1 GE APE\n  key: capacity\n  in force: 3\n  in the file: 4\n"),
     ("a first", ISLAND + 'first = "a"\n', "  station: 1 GE APE\n  key: first\n  in force: 000000\n  in the file: 00000A\n"),
-    ("connections", TITLE + "max_connections = 7\n" + STATION % ("XX", "APE", 3), "  key: max_connections\n  in force: 100\n  in the file: 7\n"),
+    ("connections", TITLE + "max_connections = 7\n" + STATION % ("XX", "APE", 3),
+     "  key: max_connections\n  in force: 100\n  in the file: 7\n"),
     ("a station more", ISLAND + STATION % ("XX", "APE", 3), "  key: station\n  in force: 1\n  in the file: 2\n"),
     ("another title", 'title = "U"\n' + APE, "  key: title\n  in force: T\n  in the file: U\n"),
 ]
@@ -148,7 +154,8 @@ class Explained(kit.Test):
     def test_a_script(self, script, line):
         kit.write("island.toml", ISLAND)
         ended = self.run_program("-v", "replay", "island.toml", kit.write("views.script", script))
-        self.assertEqual(ended.said, "seedlinkd: 45 Script\n  cause: a line of the script is no event\n  file: views.script\n  line: %d\n" % line)
+        said = "seedlinkd: 45 Script\n  cause: a line of the script is no event\n  file: views.script\n  line: %d\n" % line
+        self.assertEqual(ended.said, said)
 
     @kit.rows(RECORDS)
     def test_records(self, count, status, lines):

@@ -12,7 +12,8 @@ ISLAND = kit.TOP + "/examples/island.toml"
 NOTHING = b""
 # Bytes, and how many lines these are that are answered ERROR.
 LINES = [
-    (b"A\rB\rC\r", 3), (b"A\nB\nC\n", 3), (b"A\r\nB\r\nC\r\n", 3), (b"HELLO", 0), (b"\r\n\n\r", 0), (b"\n\rA\n\r\nB", 1), (b"A\tB \0\n", 1), (b" \r  \n\r", 0),
+    (b"A\rB\rC\r", 3), (b"A\nB\nC\n", 3), (b"A\r\nB\r\nC\r\n", 3), (b"HELLO", 0), (b"\r\n\n\r", 0), (b"\n\rA\n\r\nB", 1),
+    (b"A\tB \0\n", 1), (b" \r  \n\r", 0),
 ]
 # How many spaces follow HELLO, and the answer of this line and of one more.
 LONG = [(0, GREETING), (251, GREETING), (252, ERROR), (253, ERROR), (595, ERROR)]
@@ -20,52 +21,64 @@ CAT = b"GE WLF   Forest\r\n"
 OVER = None
 # A line of a client that has named GE WLF and asked for FETCH there, and its answer.
 COMMANDS = [
-    ("HELLO", GREETING), ("hello", GREETING), ("  hElLo   ", GREETING), ("CAT", CAT), ("cat", CAT), ("BYE", OVER), ("bye", OVER), ("END", b"END"),
+    ("HELLO", GREETING), ("hello", GREETING), ("  hElLo   ", GREETING), ("CAT", CAT), ("cat", CAT), ("BYE", OVER), ("bye", OVER),
+    ("END", b"END"),
     ("end", b"END"), ("eNd", b"END"), (" ", NOTHING), ("    ", NOTHING),
 ] + [(it, OK) for it in (
-    "STATION WLF", "station WLF GE", "  Station   WLF  ", " station  WLF   GE ", "SELECT", "select ", "SELECT BHZ", "select BHZ", "SELECT !BH?.D",
-    "select  !BH?.D", "DATA", "data", "DATA fF", "data 0000a3", "FETCH", "fetch FFFFFF", "DATA 0 2024,2,29", "data 0 2024,2,29", "FETCH 0 2024,2,29",
+    "STATION WLF", "station WLF GE", "  Station   WLF  ", " station  WLF   GE ", "SELECT", "select ", "SELECT BHZ", "select BHZ",
+    "SELECT !BH?.D",
+    "select  !BH?.D", "DATA", "data", "DATA fF", "data 0000a3", "FETCH", "fetch FFFFFF", "DATA 0 2024,2,29", "data 0 2024,2,29",
+    "FETCH 0 2024,2,29",
     "fetch 0 2024,2,29", "Fetch 10 2024,02,29,00", "TIME", "time 2024,2,29", "TIME 2024,2,29 2024,3,1", "time 2024,2,29 2024,3,1",
     "TIME 2024,2,29,0,0,0 2024,2,29,0,0,10")
 ] + [(it, ERROR) for it in (
     # Too few words, or too many.
-    "HELLO x", "hello x", "CAT x", "cat x", "BYE x", "bye x", "END x", "end x", "STATION", "station", "STATION WLF GE x", "station WLF GE x",
+    "HELLO x", "hello x", "CAT x", "cat x", "BYE x", "bye x", "END x", "end x", "STATION", "station", "STATION WLF GE x",
+    "station WLF GE x",
     "SELECT BH? x", "select BH? x", "DATA 0 2024,2,29 x", "data 0 2024,2,29 x", "FETCH 0 2024,2,29 x", "fetch 0 2024,2,29 x",
     "TIME 2024,2,29 2024,3,1 x", "time 2024,2,29 2024,3,1 x",
     # No command, and codes in lower case.
-    "DATA 1000000", "DATA G", "DATA 2024,2,29", "FETCH 0 2023,2,29", "TIME 0", "TIME 2024,2,29 0", "INFO ID", "HELL", "HELLOO", "HELLO\tx", "\tHELLO",
+    "DATA 1000000", "DATA G", "DATA 2024,2,29", "FETCH 0 2023,2,29", "TIME 0", "TIME 2024,2,29 0", "INFO ID", "HELL", "HELLOO", "HELLO\tx",
+    "\tHELLO",
     "BATCH", "CAPABILITIES", "STATION wlf GE", "STATION WLF ge")
 ]
 PATTERNS = [
     "BH?", "!E", "E", "00BHZ.D", "--LCQ", "D", ".L", "!.T", "BHZ.C", "!00bhz", "??B?9.O", "?-???",
 ]
 NO_PATTERNS = [
-    "BH", ".Q", "!", "Q", "d", "B-Z", "BHZD", "BHZ-D", "00B.Z", "00BHZD", "00BHZ.Q", "!!E", "BHZ.?", "BHZ.", ".", "!.", "BH Z", "00BHZ.DD", "?", "??",
+    "BH", ".Q", "!", "Q", "d", "B-Z", "BHZD", "BHZ-D", "00B.Z", "00BHZD", "00BHZ.Q", "!!E", "BHZ.?", "BHZ.", ".", "!.", "BH Z", "00BHZ.DD",
+    "?", "??",
     "????", "BH\xff",
 ]
 # Patterns, the location, channel and type of a record, and whether it passes.
 PASSED = [
     # A part that is left off matches everything.
-    ("BH?", "00", "BHZ", "D", True), ("BH?", "00", "LHZ", "D", False), ("00BHZ.D", "00", "BHZ", "D", True), ("00BHZ.D", "00", "BHZ", "L", False),
-    ("00BHZ.D", "10", "BHZ", "D", False), ("00BHZ", "00", "BHN", "D", False), (".T", "", "LOG", "T", True), ("BHZ.D", "", "bHZ", "D", False),
+    ("BH?", "00", "BHZ", "D", True), ("BH?", "00", "LHZ", "D", False), ("00BHZ.D", "00", "BHZ", "D", True),
+    ("00BHZ.D", "00", "BHZ", "L", False),
+    ("00BHZ.D", "10", "BHZ", "D", False), ("00BHZ", "00", "BHN", "D", False), (".T", "", "LOG", "T", True),
+    ("BHZ.D", "", "bHZ", "D", False),
     # A hyphen matches a space and not itself.
-    ("--LCQ", "", "LCQ", "D", True), ("--LCQ", "--", "LCQ", "D", False), ("--LCQ", " -", "LCQ", "D", False), ("??LCQ", "", "LCQ", "D", True),
+    ("--LCQ", "", "LCQ", "D", True), ("--LCQ", "--", "LCQ", "D", False), ("--LCQ", " -", "LCQ", "D", False),
+    ("??LCQ", "", "LCQ", "D", True),
     # A type alone means the same with its point, and without one a pattern is for each type.
     ("E", "00", "BHZ", "E", True), ("E", "00", "BHZ", "D", False), (".E", "00", "BHZ", "E", True), (".E", "00", "BHZ", "D", False),
     ("BHZ", "00", "BHZ", "O", True), ("BHZ", "00", "BHZ", "C", True), ("C", "00", "BHZ", "C", True), ("O", "00", "BHZ", "O", True),
     ("L", "00", "BHZ", "L", True), ("T", "00", "BHZ", "E", False),
     # A `!` alone lets everything else pass, and outweighs what chooses.
     ("!E", "00", "BHZ", "D", True), ("!E", "00", "LOG", "L", True), ("!E", "00", "BHZ", "E", False), ("", "00", "BHZ", "O", True),
-    ("BHZ !E", "00", "BHZ", "D", True), ("BHZ !E", "00", "BHZ", "E", False), ("!E BHZ", "00", "BHZ", "E", False), ("BHZ !E", "00", "BHN", "D", False),
+    ("BHZ !E", "00", "BHZ", "D", True), ("BHZ !E", "00", "BHZ", "E", False), ("!E BHZ", "00", "BHZ", "E", False),
+    ("BHZ !E", "00", "BHN", "D", False),
     ("BHZ LH?", "00", "LHE", "D", True),
 ]
 # Numbers as they are written, and which they are.
-NUMBERS = [("0", 0), ("A3", 0xA3), ("0000a3", 0xA3), ("fFfFfF", 0xFFFFFF), ("019AF", 0x19AF), ("fedcba", 0xFEDCBA), ("987654", 0x987654), ("fFfFfE", 0xFFFFFE)]
+NUMBERS = [("0", 0), ("A3", 0xA3), ("0000a3", 0xA3), ("fFfFfF", 0xFFFFFF), ("019AF", 0x19AF), ("fedcba", 0xFEDCBA), ("987654", 0x987654),
+    ("fFfFfE", 0xFFFFFE)]
 NO_NUMBERS = ["0000000", "G", "12g", "/:@`", "0x1", "-1", "+1"]
 # Times of commands, and the ticks at which they are; or whether it is their shape or their range that is wrong.
 TIMES = [
     # Numbers have leading zeros or not, and those that are left off are 0.
-    ("2024,2,29", 17091648000000), ("2024,2,29,5", 17091828000000), ("2024,02,29,05,6", 17091831600000), ("2024,2,09,8,07,6", 17074660260000),
+    ("2024,2,29", 17091648000000), ("2024,2,29,5", 17091828000000), ("2024,02,29,05,6", 17091831600000),
+    ("2024,2,09,8,07,6", 17074660260000),
     ("2024,2,29,23,59,60", 17092512000000), ("1970,1,1", 0), ("1969,12,31,23,59,59", -10000), ("1900,1,1", -22089888000000),
     ("1900,12,31", -21775392000000), ("2100,1,1", 41024448000000), ("2100,12,31", 41338944000000), ("2100,12,31,23,59,60", 41339808000000),
     ("2000,2,29", 9517824000000),
@@ -81,8 +94,10 @@ NO_TIMES = [(it, RANGE) for it in (
 # Rings: how many records they hold, the number of the first one, how many came, and numbers that are asked for.
 RINGS = [
     (3, 0xFFFFFE, 1, ()), (3, 0xFFFFFE, 2, ()), (3, 0xFFFFFE, 3, ()), (3, 0xFFFFFE, 4, (0xFFFFFD, 0xFFFFFE, 0xFFFFFF, 0, 1, 2, 3)),
-    (3, 0xFFFFFE, 5, ()), (3, 0, 5, (2, 3, 4)), (3, 0x12, 0, (0x12,)), (1, 0, 1, (0, 1)), (1, 0, 2, (1, 2)), (1, 0, 3, (2, 3)), (1, 0, 200, (199, 200)),
-    (65536, 0xFFFF00, 65537, (0xFFFF00, 0xFFFF01, 0xFFFFFF, 0, 0xFF00, 0xFF01)), (65536, 0xFFFF00, 3 * 65536 + 5, (0x1FF04, 0x1FF05, 0x2FF04, 0x2FF05)),
+    (3, 0xFFFFFE, 5, ()), (3, 0, 5, (2, 3, 4)), (3, 0x12, 0, (0x12,)), (1, 0, 1, (0, 1)), (1, 0, 2, (1, 2)), (1, 0, 3, (2, 3)),
+    (1, 0, 200, (199, 200)),
+    (65536, 0xFFFF00, 65537, (0xFFFF00, 0xFFFF01, 0xFFFFFF, 0, 0xFF00, 0xFF01)),
+    (65536, 0xFFFF00, 3 * 65536 + 5, (0x1FF04, 0x1FF05, 0x2FF04, 0x2FF05)),
 ]
 
 

@@ -127,9 +127,11 @@ STATES = [
     ("the greatest length", "#\n- 18446744073709551615\n"),
 ]
 NO_STATES = [
-    "\n", "GE APE 00000A 17091648000100", "GE APE 00000a -\n", "GE APE A -\n", "GE APE 00000A\n", "GE APE 00000A - \n", "GE  APE 00000A -\n",
+    "\n", "GE APE 00000A 17091648000100", "GE APE 00000a -\n", "GE APE A -\n", "GE APE 00000A\n", "GE APE 00000A - \n",
+    "GE  APE 00000A -\n",
     "ge APE 00000A -\n", "GEO APE 00000A -\n", "GE STATIO 00000A -\n", "GE APE 00000A +1\n", "GE APE 00000A 9223372036854775808\n",
-    "GE APE 00000A -\n\n", "GE APE 00000A -\nGE WLF 000001 -\nGE APE 00000B -\n", "GE APE 00000A -\n#\n", "#\n- 01\n", "#\n- -1\n", "#\n- +1\n",
+    "GE APE 00000A -\n\n", "GE APE 00000A -\nGE WLF 000001 -\nGE APE 00000B -\n", "GE APE 00000A -\n#\n", "#\n- 01\n", "#\n- -1\n",
+    "#\n- +1\n",
     "#\n-\n", "#\na b 1\n", "#- 1\n", "#\n- 1", "#\n- 18446744073709551616\n", "#\n- 1\nGE APE 00000A -\n",
 ]
 LISTED = "FFFFFF GE WLF -- BHZ D 17091648000000 17091648010000 100\n00ABCD unreadable\n"
@@ -180,7 +182,7 @@ class Wants(scripted.Test):
         if state is not None:
             self.assertRegex(kit.text_of("state"), r"\AGE WLF 000001 \d+\nGE APE 00000A \d+\n#\n- 2\n\Z")
 
-    @kit.rows([("%d bytes, %s" % (piece, how or "ticks"), piece, how, lines) for piece in (1, 7, 520, 70_000) for how, lines in (("", LISTED), ("--iso", DATED))])
+    @kit.rows([("%d bytes" % it, it, "", LISTED) for it in (1, 7, 520, 70_000)] + [("dates", 520, "--iso", DATED)])
     def test_packets_in_pieces(self, piece, how, lines):
         server, = self.scripted(GREETED + b"OK\r\nOK\r\n", b"SLFFFFFF" + WLF + b"SL00abcd" + bytes(512) + b"END", piece=piece)
         ended = self.run_program("read", server.address, "GE_WLF", "--fetch", "--output", "out", *how.split())
@@ -208,7 +210,8 @@ class Wants(scripted.Test):
     def test_no_state(self, text):
         self.assertEqual(
             self.kept(text, "ZZ_Q").said,
-            "seedlinkd: 53 State\n  cause: the file with the state is not in lines of a network, a station, a number and an end\n  file: state\n")
+            "seedlinkd: 53 State\n  cause: the file with the state is not in lines of a network, a station, a number and an end\n"
+            "  file: state\n")
         self.assertEqual(kit.text_of("state"), text)
 
 
@@ -219,7 +222,8 @@ ONE, TWO = record(1, "APE", samples=1), record(2, "APE", samples=2)
 LEFT = [
     ("no folder for the state", {}, "--state none/state", "seedlinkd: 53 State\n"),
     ("a state that can't be written", {"state.new/file": ""}, "--state state --output out", "seedlinkd: 53 State\n"),
-    ("an archive that is a file", {"sds": ""}, "--archive sds -v", "seedlinkd: 44 File\n  cause: a file could not be opened\n  file: sds\n  reason: "),
+    ("an archive that is a file", {"sds": ""}, "--archive sds -v",
+     "seedlinkd: 44 File\n  cause: a file could not be opened\n  file: sds\n  reason: "),
     ("a year that is a file", {"sds/2024": ""}, "--archive sds -v",
      "seedlinkd: 43 Write\n  cause: not everything could be written\n  file: sds/2024/GE/APE/"),
 ]
@@ -268,8 +272,8 @@ class Kept(scripted.Test):
         server.feed(ONE, TWO)
         for words, path in (("--output out", "out"), ("--archive sds", "sds/" + DAY)):
             ended = self.reader(server, "-v", "GE_APE", "--fetch", *words.split(), prepare=prepare).await_end()
-            self.assertEqual((ended.status, ended.said), (
-                1, "seedlinkd: 43 Write\n  cause: not everything could be written\n  file: %s\n  reason: File too large (os error 27)\n" % path))
+            said = "seedlinkd: 43 Write\n  cause: not everything could be written\n  file: %s\n  reason: File too large (os error 27)\n"
+            self.assertEqual((ended.status, ended.said), (1, said % path))
             self.assertEqual(kit.bytes_of(path)[:512], ONE)
 
     def test_a_state_and_an_archive_go_on(self):
