@@ -86,8 +86,8 @@ class Records(kit.Test):
 
     @kit.slow
     @kit.limit(300)
-    def test_50000_random_records_arrive(self):
-        self.arrive(7, 50_000)
+    def test_95000_random_records_arrive(self):
+        self.arrive(7, 95_000)
 
     def test_starts(self):
         kit.write("records", b"".join(record(1, start=it) for it, _ in STARTS))
