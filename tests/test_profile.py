@@ -3,6 +3,9 @@ are explained, and the dialogue of two clients."""
 
 import os
 import re
+import shutil
+import socket
+import subprocess
 
 import kit
 
@@ -274,3 +277,18 @@ class Dialogue(kit.Test):
         self.assertEqual(len(digits), len(takes))
         for it in digits:
             self.assertRegex(it, r"\A\d+ ([0-9a-f]+|-)( end)?\Z")
+
+    def test_the_demo_prints_what_readme_shows(self):
+        """It runs the program that is on the path where none stands beside it."""
+        shutil.copytree(kit.TREE + "/examples", "examples")
+        os.mkdir("bin")
+        os.symlink(kit.PROGRAM, "bin/seedlinkd")
+        with socket.create_server(("127.0.0.1", 0)) as first, socket.create_server(("127.0.0.1", 0)) as second:
+            ports = [str(it.getsockname()[1]) for it in (first, second)]
+        environment = {**os.environ, "PATH": os.path.abspath("bin") + ":" + os.environ["PATH"]}
+        done = subprocess.run(["examples/demo"] + ports, stdout=subprocess.PIPE, stderr=subprocess.PIPE, env=environment, timeout=40, check=False)
+        self.assertEqual(done.returncode, 0, done.stderr)
+        printed = done.stdout.decode().replace(":" + ports[0], ":18000").replace(":" + ports[1], ":18001").splitlines()
+        shown = re.search(r"After its version it prints\n\n((?:    .*\n)+)", text_of("README.md"))
+        pieces = pieces_of([it[4:] for it in shown.group(1).splitlines()])
+        self.assertTrue(pieces and stand_in_order(pieces, printed), "\n".join(printed))
