@@ -215,7 +215,8 @@ class Explained(kit.Test):
         pairs = [("127.0.0.1:%d" % shown, "%s:%d" % (kit.HERE, real)) for shown, real in zip((18000, 18001), ports)]
         for shown, real in pairs:
             words = [it.replace(shown, real) for it in words]
-        ended = self.run_program(*words[1:])
+        # One waits for five seconds itself.
+        ended = self.start(*words[1:]).await_end(5 + kit.PATIENCE)
         text = (ended.printed if ".." in wanted else "") + ended.said
         for shown, real in pairs:
             text = text.replace(real, shown)
