@@ -293,7 +293,7 @@ class Wrong:
     def is_as_wanted(self):
         return bool(self.noticed) != self.is_right
 
-    def told(self):
+    def line(self):
         """What came of it, with the tests that noticed it and why."""
         if self.is_right:
             came = "NOTICED, though it does nothing wrong" if self.noticed else "not noticed, as it should be, by %d tests" % self.made
@@ -319,7 +319,7 @@ def parse_options():
     words.add_argument("--all", action="store_true", help="also tests that are slow, or need more than Python")
     words.add_argument("--wrong", action="store_true", help="tries the tests, by the programs of tests/wrong; a NAME is one of these")
     words.add_argument("--program", metavar="PATH", help="the program, in place of the one that ./seedlinkd --path names")
-    words.add_argument("-j", type=int, default=os.cpu_count() or 1, metavar="N", help="so many tests side by side; else as many as processors")
+    words.add_argument("-j", type=int, default=os.cpu_count() or 1, metavar="N", help="so many tests side by side, and not one a processor")
     words.add_argument("--list", action="store_true", help="prints the names of the tests, and ends")
     words.add_argument("--times", action="store_true", help="prints how long each test took, and of a processor")
     options = words.parse_args()
@@ -371,7 +371,7 @@ def run_right(chosen, program, options):
         elif result["skipped"]:
             counts["skipped"] += 1
             if not job["is_slow"] or options.all:
-                print("passed over %s: %s" % (job["shown"], result["skipped"]), flush=True)
+                print("skipped %s: %s" % (job["shown"], result["skipped"]), flush=True)
         else:
             counts["passed"] += 1
 
@@ -380,7 +380,7 @@ def run_right(chosen, program, options):
         for wall, processor, shown in sorted(seconds):
             print("%7.2f s %7.2f s %s" % (wall, processor, shown))
     if counts["skipped"]:
-        print("%d passed over" % counts["skipped"])
+        print("%d skipped" % counts["skipped"])
     return counts["passed"], counts["failed"], counts["processor"]
 
 
@@ -414,12 +414,12 @@ def run_wrong(tests, wrong, program, options):
                 print("%7.2f s %s %s %s" % (result["wall"], "noticed" if result["wrong"] else "       ", it.name, job["shown"]), flush=True)
 
         def is_wanted(job):
-            """One test that notices is enough; those that run beside it are told too."""
+            """One test that notices is enough; those that run beside it are shown, too."""
             return options.all or not by_name[job["wrong"]].noticed
 
         environment = {**os.environ, "TRIED_ALL": "0", "TRIED_REAL": program, "PYTHONDONTWRITEBYTECODE": "1"}
         run_side_by_side(jobs, options.j, environment, tell, is_wanted)
     for it in wrong:
-        print(it.told())
+        print(it.line())
     passed = sum(it.is_as_wanted() for it in wrong)
     return passed, len(wrong) - passed, processor[0]

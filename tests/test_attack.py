@@ -58,10 +58,7 @@ class Tree(kit.Test):
         self.commit()
 
     def ran(self, *words):
-        path = os.path.abspath("bin") + ":" + os.environ["PATH"]
-        return subprocess.run(
-            words, cwd="tree", stdout=subprocess.PIPE, stderr=subprocess.PIPE, timeout=kit.PATIENCE, check=False, env={**os.environ, "PATH": path}
-        )
+        return kit.ran(*words, cwd="tree", env={**os.environ, "PATH": os.path.abspath("bin") + ":" + os.environ["PATH"]})
 
     def git(self, *words):
         who = ["-c", "user.name=Tests", "-c", "user.email=tests@example.org"]
@@ -133,7 +130,7 @@ class Lines(kit.Test):
             self.skipTest("rt is not on the path")
         if not os.path.exists(os.path.join(kit.TREE, ".git")):
             self.skipTest("git knows nothing of this tree")
-        done = subprocess.run([os.path.join(kit.TREE, "tools/attack.sh"), "--old"], stdout=subprocess.PIPE, stderr=subprocess.PIPE, check=False)
+        done = kit.ran(os.path.join(kit.TREE, "tools/attack.sh"), "--old")
         self.assertEqual((done.returncode, done.stderr), (0, b""))
         for crate in done.stdout.decode().split():
             self.note("the line of %s in attack/refused.txt is older than its files: tools/attack.sh %s" % (crate, crate))

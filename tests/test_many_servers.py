@@ -76,13 +76,18 @@ class ManyServers(kit.Test):
         self.broker = None
         self.broker = self.begin([BROKER], "broker.said", environment={
             **os.environ, "HOME": room, "RABBITMQ_BASE": room, "RABBITMQ_MNESIA_BASE": room + "/mnesia", "RABBITMQ_LOG_BASE": room + "/log",
-            "RABBITMQ_PID_FILE": room + "/pid", "RABBITMQ_ENABLED_PLUGINS_FILE": room + "/plugins", "RABBITMQ_CONFIG_FILE": room + "/rabbitmq",
+            "RABBITMQ_PID_FILE": room + "/pid", "RABBITMQ_CONFIG_FILE": room + "/rabbitmq",
+            "RABBITMQ_ENABLED_PLUGINS_FILE": room + "/plugins",
             "RABBITMQ_NODENAME": "seedlink@localhost", "ERL_CRASH_DUMP": room + "/crash", "RABBITMQ_NODE_IP_ADDRESS": "127.0.0.1",
             "RABBITMQ_NODE_PORT": str(self.amqp), "RABBITMQ_DIST_PORT": str(self.distribution), "ERL_EPMD_ADDRESS": "127.0.0.1",
             "ERL_EPMD_PORT": str(self.names), "RABBITMQ_SERVER_ADDITIONAL_ERL_ARGS": arguments,
         })
-        starts = self.broker_starts = getattr(self, "broker_starts", 0) + 1
-        self.until(lambda: kit.text_of("broker.said").count("completed with") >= starts, lambda: "the broker: " + kit.text_of("broker.said")[-500:])
+        self.broker_starts += 1
+
+        def said():
+            return kit.text_of("broker.said")
+
+        self.until(lambda: said().count("completed with") >= self.broker_starts, lambda: "the broker: " + said()[-500:])
 
     def stop_broker(self):
         """Ends the broker by the number that it has written, and waits for it."""
@@ -117,7 +122,8 @@ class ManyServers(kit.Test):
                 os.kill(int(child), signal.SIGKILL)
         self.readers[reader].wait(60)
         parent.wait(60)
-        self.say("server %d is killed; reader %s has %d records, and reader D %d" % (number, reader, lines_in(reader + ".lines"), lines_in("D.lines")))
+        counts = lines_in(reader + ".lines"), lines_in("D.lines")
+        self.say("server %d is killed; reader %s has %d records, and reader D %d" % ((number, reader) + counts))
 
     def go_on(self, number, reader):
         """A server is started again, and the reader goes on once the server has what the reader has."""
@@ -157,7 +163,7 @@ class ManyServers(kit.Test):
             it.close()
         self.amqp, self.distribution, self.names, self.door = ports[:4]
         self.listen, self.feeds = dict(zip((1, 2, 3), ports[4:7])), dict(zip((1, 2, 3), ports[7:]))
-        self.servers, self.readers, self.broker = {}, {}, None
+        self.servers, self.readers, self.broker, self.broker_starts = {}, {}, None, 0
         config = subprocess.run(RECORDS + ["config", STATIONS, str(EACH)], stdout=subprocess.PIPE, check=True).stdout
         kit.write("stations.toml", config)
         kit.write("plugins", "[].\n")
@@ -174,7 +180,8 @@ class ManyServers(kit.Test):
         # One server begins before anything is published, one while the stream is new, and the third one later.
         self.start_server(1)
         self.start_server(2)
-        self.begin([PYTHON, EXAMPLE + "/publish", "--broker", "127.0.0.1:%d" % self.amqp, "--listen", "127.0.0.1:%d" % self.door], "door.said")
+        words = [PYTHON, EXAMPLE + "/publish", "--broker", "127.0.0.1:%d" % self.amqp]
+        self.begin(words + ["--listen", "127.0.0.1:%d" % self.door], "door.said")
         self.until(lambda: can_connect(self.door), "publish --listen")
         feeders = [self.publish("0-9", 1200, 0), self.publish("10-29", 2400, 1), self.publish("30-49", 2400, 2)]
         self.say("three feeders publish %d records of 50 stations" % TOTAL)

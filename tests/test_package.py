@@ -24,7 +24,11 @@ UNITS = r"""#!/bin/bash
 exec >/root/said 2>&1
 reader=seedlinkd-archive@127.0.0.1:18000
 sds=/var/lib/seedlinkd-archive/127.0.0.1:18000/sds
-states() { for unit in seedlinkd "$reader"; do echo "$1: $unit $(systemctl is-active "$unit"), restarts $(systemctl show -P NRestarts "$unit")"; done; }
+states() {
+    for unit in seedlinkd "$reader"; do
+        echo "$1: $unit $(systemctl is-active "$unit"), restarts $(systemctl show -P NRestarts "$unit")"
+    done
+}
 pids() { systemctl show -P MainPID seedlinkd "$reader"; }
 # Waits until a command prints a line with a text, for twenty seconds.
 await() { for _ in $(seq 200); do "${@:2}" 2>/dev/null | grep -q -- "$1" && return; sleep 0.1; done; echo "waited in vain: $1"; }
@@ -40,7 +44,10 @@ archived() { find "$sds" -type f -name '*.D.*' | xargs cat | seedlinkd check /de
 await "GE APE -- BHZ D 15 " archived
 states "after a feed"
 seedlinkd status 127.0.0.1:18002 | awk '$2 == "APE" { print "its status port:", $1, $2, $3, $5, "records" }'
-for it in $(pids); do grep -q '^Seccomp:.2' "/proc/$it/status" && grep -q '^CapEff:.0*$' "/proc/$it/status" && echo "system calls are filtered, no capability"; done
+for it in $(pids); do
+    grep -q '^Seccomp:.2' "/proc/$it/status" && grep -q '^CapEff:.0*$' "/proc/$it/status" &&
+        echo "system calls are filtered, no capability"
+done
 archived
 # New lists: one that is no list is refused by the reload itself, and another one is in force once that ends.
 list=/etc/seedlinkd/seedlinkd.toml
@@ -178,7 +185,8 @@ class Package(Made):
             self.assertRegex(text, r"(?m)^ExecStart=.*(?<![\w/])/usr/bin/seedlinkd ")
             self.assertNotIn("/usr/local/bin", text)
         self.assertEqual(self.ran("package/usr/bin/seedlinkd", "--version"), self.run_program("--version").printed)
-        self.assertEqual(packed["usr/share/bash-completion/completions/seedlinkd"], kit.bytes_of(kit.TREE + "/tools/package/completion.bash"))
+        completion = kit.bytes_of(kit.TREE + "/tools/package/completion.bash")
+        self.assertEqual(packed["usr/share/bash-completion/completions/seedlinkd"], completion)
         for page in ("man8/seedlinkd.8", "man5/seedlinkd.toml.5"):
             text = gzip.decompress(packed["usr/share/man/%s.gz" % page]).decode()
             self.assertNotRegex(text, r"(?<!\w)docs/[A-Z]+\.md|(?<![\w/])examples/loopback\.toml")
@@ -238,8 +246,9 @@ class BareDebian(Made):
 
     def files(self):
         """All that stands in the bare Debian but what every package's coming and going changes."""
-        passed_over = [it for name in ("proc", "tmp", "var/cache", "var/log", "var/lib/apt", "var/lib/dpkg") for it in ("-path", "./" + name, "-o")]
-        words = ["find", ".", "-xdev", "("] + passed_over[:-1] + [")", "-prune", "-o", "-print"]
+        names = ("proc", "tmp", "var/cache", "var/log", "var/lib/apt", "var/lib/dpkg")
+        left_out = [it for name in names for it in ("-path", "./" + name, "-o")]
+        words = ["find", ".", "-xdev", "("] + left_out[:-1] + [")", "-prune", "-o", "-print"]
         return set(self.ran(*words, cwd=self.bare).splitlines())
 
     def path(self, name):
@@ -267,7 +276,7 @@ class BareDebian(Made):
 
     def check_with_lintian(self):
         self.ran("lintian", "--allow-root", "--fail-on", "error,warning", "--info", self.deb)
-        shown = subprocess.run(["lintian", "--allow-root", "--show-overrides", self.deb], stdout=subprocess.PIPE, check=False).stdout.decode()
+        shown = kit.ran("lintian", "--allow-root", "--show-overrides", self.deb, timeout=120).stdout.decode()
         self.note("overridden: " + "; ".join(re.findall(r"^O: (.*)$", shown, re.M)))
 
     def make_bare_debian(self):
@@ -276,12 +285,11 @@ class BareDebian(Made):
         os.mkdir("bare")
         for it in (os.getcwd(), os.path.dirname(os.getcwd()), "bare"):
             os.chmod(it, 0o755)
-        done = subprocess.run(
-            ["debootstrap", "--variant=minbase", "--include=man-db,mandoc,procps,systemd", os.environ.get("TRIED_SUITE", "bookworm"), self.bare],
-            stdout=subprocess.PIPE, stderr=subprocess.STDOUT, check=False,
-        )
+        suite = os.environ.get("TRIED_SUITE", "bookworm")
+        words = ["debootstrap", "--variant=minbase", "--include=man-db,mandoc,procps,systemd", suite, self.bare]
+        done = kit.ran(*words, timeout=600)
         if done.returncode:
-            self.skipTest("no bare Debian could be made: " + done.stdout[-300:].decode("utf-8", "replace"))
+            self.skipTest("no bare Debian could be made: " + (done.stdout + done.stderr)[-300:].decode("utf-8", "replace"))
         self.ran("mount", "-t", "proc", "proc", self.path("proc"))
         self.addCleanup(subprocess.run, ["umount", "-l", self.path("proc")], stderr=subprocess.DEVNULL, check=False)
         kit.write(self.path("usr/sbin/policy-rc.d"), "#!/bin/sh\nexit 101\n")

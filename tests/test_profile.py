@@ -5,7 +5,6 @@ import os
 import re
 import shutil
 import socket
-import subprocess
 
 import kit
 
@@ -111,11 +110,15 @@ class Tables(kit.Test):
 
     def test_usages_are_those_of_help(self):
         """Each command and each of its options stands in the usages of the page, and no other."""
-        usages = re.split(r"^    seedlinkd ", re.search(r"<!-- begin usages -->\n(.*?)<!-- end usages -->", profile(), re.S).group(1), flags=re.M)
+        part = re.search(r"<!-- begin usages -->\n(.*?)<!-- end usages -->", profile(), re.S).group(1)
+        usages = re.split(r"^    seedlinkd ", part, flags=re.M)
         said = {it.split(None, 1)[0]: set(re.findall(r"--([a-z-]+)", it)) for it in usages[1:] if not it.startswith("--")}
         commands = re.findall(r"^  ([a-z]+) ", self.run_program("--help").printed.partition("Commands:")[2].partition("\n\n")[0], re.M)
-        helps = {it: self.run_program(it, "--help").printed for it in commands}
-        options = {it: set(re.findall(r"^ +(?:-., )?--([a-z-]+)", helps[it], re.M)) - {"help", "verbose"} for it in commands if it != "help"}
+        options = {}
+        for it in commands:
+            if it != "help":
+                found = re.findall(r"^ +(?:-., )?--([a-z-]+)", self.run_program(it, "--help").printed, re.M)
+                options[it] = set(found) - {"help", "verbose"}
         self.assertEqual(said, options)
 
 
@@ -265,7 +268,8 @@ def stand_in_order(pieces, lines):
 
 class Dialogue(kit.Test):
     def replayed(self, *options):
-        return self.run_program("replay", kit.TREE + "/examples/island.toml", kit.TREE + "/examples/views.script", *options).printed.splitlines()
+        files = [kit.TREE + "/examples/" + it for it in ("island.toml", "views.script")]
+        return self.run_program("replay", *files, *options).printed.splitlines()
 
     def test_readme_shows_what_replay_prints(self):
         shown = re.search(r"views\.script --text`.*?\n\n((?:    .*\n)+)", text_of("README.md"))
@@ -287,7 +291,7 @@ class Dialogue(kit.Test):
         with socket.create_server(("127.0.0.1", 0)) as first, socket.create_server(("127.0.0.1", 0)) as second:
             ports = [str(it.getsockname()[1]) for it in (first, second)]
         environment = {**os.environ, "PATH": os.path.abspath("bin") + ":" + os.environ["PATH"]}
-        done = subprocess.run(["examples/demo"] + ports, stdout=subprocess.PIPE, stderr=subprocess.PIPE, env=environment, timeout=40, check=False)
+        done = kit.ran("examples/demo", *ports, env=environment, timeout=40)
         self.assertEqual(done.returncode, 0, done.stderr)
         printed = done.stdout.decode().replace(":" + ports[0], ":18000").replace(":" + ports[1], ":18001").splitlines()
         shown = re.search(r"After its version it prints\n\n((?:    .*\n)+)", text_of("README.md"))

@@ -94,8 +94,8 @@ class Run(kit.Test):
         tree = self.small_tree()
         kit.write(tree + "/test_it.py", "import kit\n\n\nclass It(kit.Test):\n"
                   '    def test_version(self):\n        self.assertIn("seedlinkd", self.run_program("--version").printed)\n')
-        real = 'exec "$TRIED_REAL" "$@"'
-        for name, by, script in (("through", "it", real), ("noticed", "it", "exit 1"), ("control", "nobody it", "exit 1"), ("right", "nobody", real)):
+        real, none = 'exec "$TRIED_REAL" "$@"', "exit 1"
+        for name, by, script in (("through", "it", real), ("noticed", "it", none), ("control", "nobody it", none), ("right", "nobody", real)):
             kit.write("%s/wrong/%s" % (tree, name), "#!/bin/sh\n# noticed by: %s\n%s\n" % (by, script))
             os.chmod("%s/wrong/%s" % (tree, name), 0o755)
         ended = self.run_of(tree, "--wrong", "--program", kit.PROGRAM)
@@ -112,5 +112,5 @@ class Run(kit.Test):
         return os.path.abspath("small/tests")
 
     def run_of(self, tests, *words):
-        done = subprocess.run([sys.executable, tests + "/run"] + list(words), stdout=subprocess.PIPE, stderr=subprocess.PIPE, timeout=50, check=False)
+        done = kit.ran(sys.executable, tests + "/run", *words, timeout=50)
         return kit.Ended(words, done.returncode, done.stdout.decode(), done.stderr.decode())
