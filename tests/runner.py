@@ -273,17 +273,22 @@ class Wrong:
         self.is_right = by[0] == "nobody"
         self.tests = by[1:] if self.is_right else by
         self.changes_tree = "\n# changes the tree\n" in text
-        self.noticed, self.made = [], 0
+        # Why it could not be made, the tests that noticed it with their reasons, and how many were run.
+        self.fault, self.noticed, self.made = None, [], 0
 
-    def target(self, program, room):
-        """The program and the tree of its tests."""
-        if not self.changes_tree:
-            return {"program": self.path, "tree": TOP}
-        tree = os.path.join(room, self.name)
-        shutil.copytree(TOP, tree, symlinks=True, ignore=NOT_COPIED)
-        if subprocess.run([self.path, tree], check=False).returncode:
-            give_up("wrong/%s could not change the tree" % self.name)
-        return {"program": program, "tree": tree}
+    def jobs(self, quick, program, room, options):
+        """The tests that are run against it, with their program and their tree."""
+        chosen = quick if options.all or not self.tests else those_named(quick, self.tests)
+        target = {"program": self.path, "tree": TOP}
+        if self.changes_tree:
+            tree = os.path.join(room, self.name)
+            shutil.copytree(TOP, tree, symlinks=True, ignore=NOT_COPIED)
+            changed = kit.ran(self.path, tree)
+            if changed.returncode:
+                self.fault = changed.stderr.decode("utf-8", "replace").strip()
+                return []
+            target = {"program": program, "tree": tree}
+        return [{**it, **target, **self.limits(it["limit"]), "wrong": self.name} for it in chosen]
 
     def limits(self, limit):
         if self.is_right:
@@ -291,11 +296,13 @@ class Wrong:
         return {"patience": PATIENCE_IF_WRONG, "limit": min(limit, LIMIT_IF_WRONG)}
 
     def is_as_wanted(self):
-        return bool(self.noticed) != self.is_right
+        return self.fault is None and bool(self.noticed) != self.is_right
 
     def line(self):
         """What came of it, with the tests that noticed it and why."""
-        if self.is_right:
+        if self.fault is not None:
+            came = "COULD NOT BE MADE: " + self.fault
+        elif self.is_right:
             came = "NOTICED, though it does nothing wrong" if self.noticed else "not noticed, as it should be, by %d tests" % self.made
         else:
             came = "noticed by %d of %d tests" % (len(self.noticed), self.made) if self.noticed else "GOT THROUGH %d tests" % self.made
@@ -335,6 +342,9 @@ def main():
     tests = tests_of_all()
     chosen = tests if options.wrong else those_named(tests, options.names)
     wrong = wrong_programs(options.names) if options.wrong else []
+    quick = [it for it in tests if not it["is_slow"]]
+    for it in wrong:
+        those_named(quick, it.tests)
     if options.list:
         for it in wrong or chosen:
             print(it.name if options.wrong else it["shown"])
@@ -342,7 +352,7 @@ def main():
     need_loopback()
     program = program_of(options.program)
     begun = time.monotonic()
-    passed, failed, processor = run_wrong(tests, wrong, program, options) if options.wrong else run_right(chosen, program, options)
+    passed, failed, processor = run_wrong(quick, wrong, program, options) if options.wrong else run_right(chosen, program, options)
     print("%.1f s, of a processor %.1f s" % (time.monotonic() - begun, processor))
     print("%d passed, %d failed" % (passed, failed))
     return 1 if failed or not passed else 0
@@ -391,18 +401,15 @@ def reason_in(text):
     return (reasons or lines)[-1]
 
 
-def run_wrong(tests, wrong, program, options):
+def run_wrong(quick, wrong, program, options):
     """Runs against each wrong program the tests that should notice it, until one does, or all with --all. Passed is what was noticed,
     and a control that nobody noticed."""
-    quick = [it for it in tests if not it["is_slow"]]
     by_name = {it.name: it for it in wrong}
     processor = [0.0]
     with tempfile.TemporaryDirectory(prefix="trees-") as room:
         jobs = []
         for it in wrong:
-            chosen = quick if options.all or not it.tests else those_named(quick, it.tests)
-            target = it.target(program, room)
-            jobs += [{**job, **target, **it.limits(job["limit"]), "wrong": it.name} for job in chosen]
+            jobs += it.jobs(quick, program, room, options)
 
         def tell(job, result):
             processor[0] += result["processor"]

@@ -61,6 +61,11 @@ class Run(kit.Test):
         self.assertEqual((done.returncode, done.stdout), (2, b""), said)
         self.assertRegex(said, r"\Atests/run: the tests need IPv4 on loopback, and there is no connection to 127.0.0.1: .*\n\Z")
 
+    def test_each_wrong_program_names_tests(self):
+        ended = self.run_tests("--wrong", "--list")
+        self.assertEqual((ended.status, ended.said), (0, ""))
+        self.assertGreater(len(ended.printed.split()), 70)
+
     def test_tests_that_pass(self):
         ended = self.run_tests("closed.job__help", "--program", kit.PROGRAM, "-j", "2")
         self.assertEqual((ended.status, ended.said), (0, ""), ended.all())
@@ -98,9 +103,11 @@ class Run(kit.Test):
         for name, by, script in (("through", "it", real), ("noticed", "it", none), ("control", "nobody it", none), ("right", "nobody", real)):
             kit.write("%s/wrong/%s" % (tree, name), "#!/bin/sh\n# noticed by: %s\n%s\n" % (by, script))
             os.chmod("%s/wrong/%s" % (tree, name), 0o755)
+        kit.write(tree + "/wrong/unmade", "#!/bin/sh\n# noticed by: it\n# changes the tree\necho no such text >&2\nexit 1\n")
+        os.chmod(tree + "/wrong/unmade", 0o755)
         ended = self.run_of(tree, "--wrong", "--program", kit.PROGRAM)
-        self.assertEqual((ended.status, ended.printed.splitlines()[-1]), (1, "2 passed, 2 failed"), ended.all())
-        for line in ("through: GOT THROUGH 1 tests", "noticed: noticed by 1 of 1 tests", "control: NOTICED, though it does nothing wrong",
+        self.assertEqual((ended.status, ended.printed.splitlines()[-1]), (1, "2 passed, 3 failed"), ended.all())
+        for line in ("unmade: COULD NOT BE MADE: no such text", "through: GOT THROUGH 1 tests", "noticed: noticed by 1 of 1 tests", "control: NOTICED, though it does nothing wrong",
                      "right: not noticed, as it should be, by 1 tests"):
             self.assertIn(line + "\n", ended.printed)
 
@@ -110,6 +117,11 @@ class Run(kit.Test):
             kit.write("small/tests/" + name, kit.bytes_of(os.path.join(kit.TREE, "tests", name)))
         os.mkdir("small/tests/wrong")
         return os.path.abspath("small/tests")
+
+    def test_a_port_that_is_taken(self):
+        """The server says so, and so does the test."""
+        with kit.taken_port() as listener, self.assertRaisesRegex(AssertionError, "a port that is free of `serve .* 46 Listen"):
+            self.serve(kit.CENTRE, at=(listener.getsockname()[1], 0))
 
     def run_of(self, tests, *words):
         done = kit.ran(sys.executable, tests + "/run", *words, timeout=50)
