@@ -1,5 +1,4 @@
 -- The numbers and names by which the program reports a replay that failed, and any other failure of its own.
-use Rattle.std.specs.Prelude.{codes}
 use Rattle.protocol.specs.declared.reason.Reason.{Reason}
 use Rattle.protocol.specs.declared.reason.Reason.TheVariants as reason
 use Rattle.catalog.specs.Faults.{config_reason}

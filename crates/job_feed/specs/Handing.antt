@@ -1,5 +1,5 @@
 -- How many bytes a connection took of a feed, and which record was the last.
-use Rattle.std.specs.Prelude.{◌≡◌, ℕ, ◌+◌, ◌-◌, List, ◌++◌, length, drop, nat_le, nat_lt, Option, Some, None}
+use Rattle.std.specs.Prelude.{◌≡◌, ℕ, ◌+◌, ◌-◌, List, ◌++◌, length, drop, nat_le, Option, Some, None}
 use Rattle.std.specs.Prelude.{if◌then◌else◌}
 
 -- Of the bytes that a connection tells the last ones, as many as were counted.

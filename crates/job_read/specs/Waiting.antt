@@ -1,8 +1,8 @@
 -- How far a connection is, by the bytes that went over it, and what it means that the server is silent there.
 -- SeedLink 3: each command but END has an answer; after END data packets of 520 bytes come. Left out: the answer to a
 -- command in more than one line, of which the last one counts.
-use Rattle.std.specs.Prelude.{◌≡◌, ℕ, ◌+◌, ◌-◌, ◌*◌, ◌%◌, Bool, true, false, ◌&&◌, ◌||◌, not, ◌==◌, nat_le, nat_lt, min}
-use Rattle.std.specs.Prelude.{if◌then◌else◌, List, [], ◌∷◌, Option, Some, None, option_map, is_some}
+use Rattle.std.specs.Prelude.{ℕ, ◌+◌, ◌-◌, ◌*◌, ◌%◌, Bool, true, false, ◌||◌, not, ◌==◌, nat_le, nat_lt, min}
+use Rattle.std.specs.Prelude.{if◌then◌else◌, List, [], ◌∷◌, Option, Some, None, option_map}
 use Rattle.job_read.specs.declared.course.SentCommand.{SentCommand}
 use Rattle.job_read.specs.declared.course.SentCommand.TheVariants.{Begun, E, En, End, Other}
 use Rattle.job_read.specs.declared.patience.Silence.{Silence}

@@ -1,7 +1,7 @@
-use Rattle.std.proofs.Common.{◌≡◌, ◌∙◌, ◌++◌, List, [], ap, map, sym, append-nil}
+use Rattle.std.proofs.Common.{◌∙◌, ◌++◌, [], ap, map, sym, append-nil}
 use Rattle.std.specs.Prelude.{◌==◌}
 use Rattle.protocol.specs.Pieces.{split}
-use Rattle.job_read.specs.WantLines.{LineOfWant, line_value, lines_from, next_number}
+use Rattle.job_read.specs.WantLines.{line_value, lines_from}
 use Rattle.job_read.proofs.WantLineLemmas.{line_more}
 use Rattle.job_read.proofs.want_lines.want_lines.Goals as goal
 
