@@ -29,7 +29,7 @@ CAUGHT_UP = "all that the stream held is written"
 
 def can_connect(port):
     with contextlib.suppress(OSError):
-        socket.create_connection(("127.0.0.1", port), timeout=5).close()
+        socket.create_connection((kit.HERE, port), timeout=5).close()
         return True
     return False
 
@@ -68,7 +68,26 @@ class ManyServers(kit.Test):
 
         return kit.until(check, what, 120)
 
+    def at(self, port):
+        return "%s:%d" % (kit.HERE, port)
+
     # ---- the broker
+
+    def begin_broker(self):
+        """Begins the broker and its table of names, whose ports are at 127.0.0.1: there a connection may have taken them by then."""
+        for attempt in range(3):
+            self.amqp = kit.free_port()
+            with socket.create_server(("127.0.0.1", 0)) as first, socket.create_server(("127.0.0.1", 0)) as second:
+                self.distribution, self.names = (it.getsockname()[1] for it in (first, second))
+            self.broker, self.broker_starts = None, 0
+            kit.write("broker.said", "")
+            self.begin(["epmd", "-port", str(self.names)], "epmd.said", environment={**os.environ, "ERL_EPMD_ADDRESS": "127.0.0.1"})
+            try:
+                return self.start_broker()
+            except AssertionError:
+                self.end_processes()
+                if attempt == 2:
+                    raise
 
     def start_broker(self):
         room = os.getcwd()
@@ -78,7 +97,7 @@ class ManyServers(kit.Test):
             **os.environ, "HOME": room, "RABBITMQ_BASE": room, "RABBITMQ_MNESIA_BASE": room + "/mnesia", "RABBITMQ_LOG_BASE": room + "/log",
             "RABBITMQ_PID_FILE": room + "/pid", "RABBITMQ_CONFIG_FILE": room + "/rabbitmq",
             "RABBITMQ_ENABLED_PLUGINS_FILE": room + "/plugins",
-            "RABBITMQ_NODENAME": "seedlink@localhost", "ERL_CRASH_DUMP": room + "/crash", "RABBITMQ_NODE_IP_ADDRESS": "127.0.0.1",
+            "RABBITMQ_NODENAME": "seedlink@localhost", "ERL_CRASH_DUMP": room + "/crash", "RABBITMQ_NODE_IP_ADDRESS": kit.HERE,
             "RABBITMQ_NODE_PORT": str(self.amqp), "RABBITMQ_DIST_PORT": str(self.distribution), "ERL_EPMD_ADDRESS": "127.0.0.1",
             "ERL_EPMD_PORT": str(self.names), "RABBITMQ_SERVER_ADDITIONAL_ERL_ARGS": arguments,
         })
@@ -100,8 +119,8 @@ class ManyServers(kit.Test):
     def start_server(self, number):
         said = "server%d.said" % number
         kit.write(said, "")
-        words = [PYTHON, EXAMPLE + "/serve_stream", "stations.toml", "--listen", "127.0.0.1:%d" % self.listen[number]]
-        words += ["--feed", "127.0.0.1:%d" % self.feeds[number], "--program", kit.PROGRAM, "--broker", "127.0.0.1:%d" % self.amqp]
+        words = [PYTHON, EXAMPLE + "/serve_stream", "stations.toml", "--listen", self.at(self.listen[number])]
+        words += ["--feed", self.at(self.feeds[number]), "--program", kit.PROGRAM, "--broker", self.at(self.amqp)]
         self.servers[number] = self.begin(words, said)
 
     def await_caught_up(self, number):
@@ -110,7 +129,7 @@ class ManyServers(kit.Test):
     def start_reader(self, name, *servers):
         """A reader that goes on after the lines that it has. With several servers it asks the next one when one is gone."""
         wants = subprocess.run(RECORDS + ["wants", STATIONS, name + ".lines"], stdout=subprocess.PIPE, check=True).stdout.decode().split()
-        addresses = ",".join("127.0.0.1:%d" % self.listen[it] for it in servers)
+        addresses = ",".join(self.at(self.listen[it]) for it in servers)
         words = [kit.PROGRAM, "read", addresses] + wants + (["--retry", "1"] if len(servers) > 1 else [])
         self.readers[name] = self.begin(words, name + ".said", name + ".lines")
 
@@ -130,14 +149,21 @@ class ManyServers(kit.Test):
         self.start_server(number)
         self.await_caught_up(number)
         self.say("server %d was started again, and has been fed all that the stream held" % number)
-        time.sleep(1)
+        self.until(lambda: self.holds_the_last_of(number, reader), "the records of reader %s at server %d" % (reader, number))
         self.start_reader(reader, number)
         self.say("reader %s goes on at server %d, with %d records" % (reader, number, lines_in(reader + ".lines")))
+
+    def holds_the_last_of(self, number, reader):
+        """Whether a server holds the last record of each station that a reader has: what `follow` wrote may not have been read yet."""
+        last = {line.split()[2]: line for line in kit.text_of(reader + ".lines").splitlines()}
+        wants = ["GE_%s@%s" % (station, line.split()[0]) for station, line in last.items()]
+        words = [kit.PROGRAM, "read", self.at(self.listen[number])] + wants + ["--fetch"]
+        return set(last.values()) <= set(kit.ran(*words, timeout=60).stdout.decode().splitlines())
 
     def held_by(self, number):
         """A sum over all records that a server holds, in its order."""
         wants = subprocess.run(RECORDS + ["wants", STATIONS, os.devnull], stdout=subprocess.PIPE, check=True).stdout.decode().split()
-        words = [kit.PROGRAM, "read", "127.0.0.1:%d" % self.listen[number]] + wants + ["--fetch", "--output", "-"]
+        words = [kit.PROGRAM, "read", self.at(self.listen[number])] + wants + ["--fetch", "--output", "-"]
         return hashlib.sha256(subprocess.run(words, stdout=subprocess.PIPE, stderr=subprocess.DEVNULL, check=True).stdout).hexdigest()
 
     def await_records(self, count):
@@ -147,9 +173,9 @@ class ManyServers(kit.Test):
         """Has records of stations published, by `publish` itself or by a feed."""
         made = subprocess.Popen(RECORDS + ["make", stations, str(EACH), str(rate)], stdout=subprocess.PIPE, start_new_session=True)
         self.processes.append(made)
-        words = [PYTHON, EXAMPLE + "/publish", "--broker", "127.0.0.1:%d" % self.amqp]
+        words = [PYTHON, EXAMPLE + "/publish", "--broker", self.at(self.amqp)]
         if number:
-            words = [kit.PROGRAM, "feed", "127.0.0.1:%d" % self.door, "/dev/stdin"]
+            words = [kit.PROGRAM, "feed", self.at(self.door), "/dev/stdin"]
         process = self.begin(words, "feed%d.said" % number, stdin=made.stdout)
         made.stdout.close()
         return process
@@ -157,20 +183,15 @@ class ManyServers(kit.Test):
     def prepare(self):
         if not os.path.exists(BROKER) or subprocess.run([PYTHON, "-c", "import pika"], stderr=subprocess.DEVNULL, check=False).returncode:
             self.skipTest("there is no broker: apt-get install rabbitmq-server python3-pika")
-        sockets = [socket.create_server(("127.0.0.1", 0)) for _ in range(10)]
-        ports = [it.getsockname()[1] for it in sockets]
-        for it in sockets:
-            it.close()
-        self.amqp, self.distribution, self.names, self.door = ports[:4]
-        self.listen, self.feeds = dict(zip((1, 2, 3), ports[4:7])), dict(zip((1, 2, 3), ports[7:]))
-        self.servers, self.readers, self.broker, self.broker_starts = {}, {}, None, 0
+        self.door, *ports = [kit.free_port() for _ in range(7)]
+        self.listen, self.feeds = dict(zip((1, 2, 3), ports[:3])), dict(zip((1, 2, 3), ports[3:]))
+        self.servers, self.readers = {}, {}
         config = subprocess.run(RECORDS + ["config", STATIONS, str(EACH)], stdout=subprocess.PIPE, check=True).stdout
         kit.write("stations.toml", config)
         kit.write("plugins", "[].\n")
         for name in "ABCD":
             kit.write(name + ".lines", "")
-        self.begin(["epmd", "-port", str(self.names)], "epmd.said", environment={**os.environ, "ERL_EPMD_ADDRESS": "127.0.0.1"})
-        self.start_broker()
+        self.begin_broker()
         self.say("a broker")
 
     @kit.slow
@@ -180,8 +201,8 @@ class ManyServers(kit.Test):
         # One server begins before anything is published, one while the stream is new, and the third one later.
         self.start_server(1)
         self.start_server(2)
-        words = [PYTHON, EXAMPLE + "/publish", "--broker", "127.0.0.1:%d" % self.amqp]
-        self.begin(words + ["--listen", "127.0.0.1:%d" % self.door], "door.said")
+        words = [PYTHON, EXAMPLE + "/publish", "--broker", self.at(self.amqp)]
+        self.begin(words + ["--listen", self.at(self.door)], "door.said")
         self.until(lambda: can_connect(self.door), "publish --listen")
         feeders = [self.publish("0-9", 1200, 0), self.publish("10-29", 2400, 1), self.publish("30-49", 2400, 2)]
         self.say("three feeders publish %d records of 50 stations" % TOTAL)
