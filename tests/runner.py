@@ -271,14 +271,17 @@ class Wrong:
         by = noticing.group(1).split()
         # A control does nothing wrong, and nobody may notice it.
         self.is_right = by[0] == "nobody"
-        self.tests = by[1:] if self.is_right else by
+        self.names, self.tests = by[1:] if self.is_right else by, []
         self.changes_tree = "\n# changes the tree\n" in text
         # Why it could not be made, the tests that noticed it with their reasons, and how many were run.
         self.fault, self.noticed, self.made = None, [], 0
 
-    def jobs(self, quick, program, room, options):
+    def choose(self, tests, is_all):
+        """Takes the tests that its names stand for, and leaves out slow ones, but for all."""
+        self.tests = [it for it in those_named(tests, self.names) if is_all or not it["is_slow"]]
+
+    def jobs(self, program, room):
         """The tests that are run against it, with their program and their tree."""
-        chosen = quick if options.all or not self.tests else those_named(quick, self.tests)
         target = {"program": self.path, "tree": TOP}
         if self.changes_tree:
             tree = os.path.join(room, self.name)
@@ -288,12 +291,14 @@ class Wrong:
                 self.fault = changed.stderr.decode("utf-8", "replace").strip()
                 return []
             target = {"program": program, "tree": tree}
-        return [{**it, **target, **self.limits(it["limit"]), "wrong": self.name} for it in chosen]
+        return [{**it, **target, **self.limits(it), "wrong": self.name} for it in self.tests]
 
-    def limits(self, limit):
+    def limits(self, test):
         if self.is_right:
-            return {"patience": PATIENCE_IF_RIGHT, "limit": max(limit, LIMIT_IF_RIGHT)}
-        return {"patience": PATIENCE_IF_WRONG, "limit": min(limit, LIMIT_IF_WRONG)}
+            return {"patience": PATIENCE_IF_RIGHT, "limit": max(test["limit"], LIMIT_IF_RIGHT)}
+        if test["is_slow"]:
+            return {"patience": kit.PATIENCE, "limit": test["limit"]}
+        return {"patience": PATIENCE_IF_WRONG, "limit": min(test["limit"], LIMIT_IF_WRONG)}
 
     def is_as_wanted(self):
         return self.fault is None and bool(self.noticed) != self.is_right
@@ -323,7 +328,7 @@ def wrong_programs(names):
 def parse_options():
     words = argparse.ArgumentParser(prog="tests/run", description="Tries the program from outside. The last line is `N passed, M failed`.")
     words.add_argument("names", nargs="*", metavar="NAME", help="a file of tests (view), a test (view.TEST), or a part of a test's name")
-    words.add_argument("--all", action="store_true", help="also tests that are slow, or need more than Python")
+    words.add_argument("--all", action="store_true", help="also tests that are slow, or need more than Python, and what these notice")
     words.add_argument("--wrong", action="store_true", help="tries the tests, by the programs of tests/wrong; a NAME is one of these")
     words.add_argument("--program", metavar="PATH", help="the program, in place of the one that ./seedlinkd --path names")
     words.add_argument("-j", type=int, default=os.cpu_count() or 1, metavar="N", help="so many tests side by side, and not one a processor")
@@ -342,9 +347,10 @@ def main():
     tests = tests_of_all()
     chosen = tests if options.wrong else those_named(tests, options.names)
     wrong = wrong_programs(options.names) if options.wrong else []
-    quick = [it for it in tests if not it["is_slow"]]
     for it in wrong:
-        those_named(quick, it.tests)
+        it.choose(tests, options.all)
+    if options.wrong and not any(it.tests for it in wrong):
+        give_up("slow tests alone notice this: --wrong --all")
     if options.list:
         for it in wrong or chosen:
             print(it.name if options.wrong else it["shown"])
@@ -352,7 +358,7 @@ def main():
     need_loopback()
     program = program_of(options.program)
     begun = time.monotonic()
-    passed, failed, processor = run_wrong(quick, wrong, program, options) if options.wrong else run_right(chosen, program, options)
+    passed, failed, processor = run_wrong(wrong, program, options) if options.wrong else run_right(chosen, program, options)
     print("%.1f s, of a processor %.1f s" % (time.monotonic() - begun, processor))
     print("%d passed, %d failed" % (passed, failed))
     return 1 if failed or not passed else 0
@@ -401,15 +407,17 @@ def reason_in(text):
     return (reasons or lines)[-1]
 
 
-def run_wrong(quick, wrong, program, options):
-    """Runs against each wrong program the tests that should notice it, until one does, or all with --all. Passed is what was noticed,
-    and a control that nobody noticed."""
+def run_wrong(wrong, program, options):
+    """Runs against each wrong program the tests that should notice it, until one does. Passed is what was noticed, and a control that
+    nobody noticed."""
+    left_out = [it.name for it in wrong if not it.tests]
+    wrong = [it for it in wrong if it.tests]
     by_name = {it.name: it for it in wrong}
     processor = [0.0]
     with tempfile.TemporaryDirectory(prefix="trees-") as room:
         jobs = []
         for it in wrong:
-            jobs += it.jobs(quick, program, room, options)
+            jobs += it.jobs(program, room)
 
         def tell(job, result):
             processor[0] += result["processor"]
@@ -422,11 +430,13 @@ def run_wrong(quick, wrong, program, options):
 
         def is_wanted(job):
             """One test that notices is enough; those that run beside it are shown, too."""
-            return options.all or not by_name[job["wrong"]].noticed
+            return not by_name[job["wrong"]].noticed
 
-        environment = {**os.environ, "TRIED_ALL": "0", "TRIED_REAL": program, "PYTHONDONTWRITEBYTECODE": "1"}
+        environment = {**os.environ, "TRIED_ALL": "1" if options.all else "0", "TRIED_REAL": program, "PYTHONDONTWRITEBYTECODE": "1"}
         run_side_by_side(jobs, options.j, environment, tell, is_wanted)
     for it in wrong:
         print(it.line())
+    if left_out:
+        print("%d for --all: %s" % (len(left_out), " ".join(left_out)))
     passed = sum(it.is_as_wanted() for it in wrong)
     return passed, len(wrong) - passed, processor[0]

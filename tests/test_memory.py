@@ -21,14 +21,19 @@ REFUSING = """
 #include <dlfcn.h>
 #include <fcntl.h>
 #include <stddef.h>
+#include <limits.h>
 #include <stdlib.h>
+#include <string.h>
 #include <unistd.h>
 
 static unsigned long made, due;
 
+/* Only in the program itself, and not in what may have started it. */
 __attribute__((constructor)) static void begin(void) {
-    const char *text = getenv("REFUSED_ALLOCATION");
-    due = text ? strtoul(text, NULL, 10) : 0;
+    char path[PATH_MAX];
+    ssize_t length = readlink("/proc/self/exe", path, sizeof path - 1);
+    path[length > 0 ? length : 0] = 0;
+    due = strcmp(path, getenv("REFUSED_IN")) ? 0 : strtoul(getenv("REFUSED_ALLOCATION"), NULL, 10);
     made = 0;
 }
 
@@ -94,8 +99,9 @@ class Refusing(kit.Test):
 
     def refusing(self, due):
         """The environment in which the `due`-th allocation is refused, and the file that tells so."""
-        mark = os.path.abspath("refused-%d" % due)
-        return {**os.environ, "LD_PRELOAD": self.library, "REFUSED_ALLOCATION": str(due), "REFUSED_MARK": mark}, mark
+        mark, program = os.path.abspath("refused-%d" % due), os.path.realpath(os.environ.get("TRIED_REAL", kit.PROGRAM))
+        refused = {"LD_PRELOAD": self.library, "REFUSED_IN": program, "REFUSED_ALLOCATION": str(due), "REFUSED_MARK": mark}
+        return {**os.environ, **refused}, mark
 
 
 class Jobs(Refusing):

@@ -1,6 +1,7 @@
 """The runner of these tests: what it says of bad input, of tests that fail and of programs that are wrong."""
 
 import ast
+import glob
 import os
 import re
 import shutil
@@ -17,6 +18,7 @@ REFUSED = [
     ("a program without the right to run", "--program file", "can't be run: Permission denied"),
     ("a file that is no program", "--program text", "can't be run: Exec format error"),
     ("another program", "--program /bin/true", "/bin/true is not the program: it answers --version with "),
+    ("a program that slow tests alone notice", "--wrong lists_no_1000th_packet", "slow tests alone notice this: --wrong --all"),
     ("no process", "-j 0", "-j wants a number from 1 on"),
     ("a word that is no number", "-j many", "argument -j: invalid int value: 'many'"),
     ("an unknown option", "--everything", "unrecognized arguments: --everything"),
@@ -62,9 +64,16 @@ class Run(kit.Test):
         self.assertRegex(said, r"\Atests/run: the tests need IPv4 on loopback, and there is no connection to 127.0.0.1: .*\n\Z")
 
     def test_each_wrong_program_names_tests(self):
+        """And each file of tests is named by one that is no control."""
         ended = self.run_tests("--wrong", "--list")
         self.assertEqual((ended.status, ended.said), (0, ""))
-        self.assertGreater(len(ended.printed.split()), 70)
+        files, named = set(), set()
+        for path in glob.glob(os.path.join(kit.TREE, "tests/test_*.py")):
+            files.add(os.path.basename(path)[5:-3])
+        for name in ended.printed.split():
+            by = re.search(r"^# noticed by: (.*)$", kit.text_of(os.path.join(kit.TREE, "tests/wrong", name)), re.M).group(1).split()
+            named |= set() if by[0] == "nobody" else {it.split(".")[0] for it in by}
+        self.assertEqual(files - named, set())
 
     def test_tests_that_pass(self):
         ended = self.run_tests("closed.job__help", "--program", kit.PROGRAM, "-j", "2")
