@@ -18,7 +18,9 @@ CRATE_LINES = (5, 42)
 MOST_LINES_OF_A_FORMAT = {"dialogues": 70}
 MOST_IN_A_ROW = 600
 # The gate tries at most so many edits.
-MOST_EDITS = 200
+MOST_EDITS = 50
+# Names in code spans that are of the library, of the system or of other programs.
+NAMES_OF_OTHERS = {"delete_queue", "map_or", "overcommit_memory"}
 
 
 def text_of(path):
@@ -72,6 +74,31 @@ def missing_files(page):
         is_any = any(it.isupper() for it in path.split("/"))
         if not is_any and not any(map(is_there, (path, path + ".edit", beside))):
             yield "%s: there is no %s" % (page, path)
+    if page.startswith("crates/"):
+        for path in re.findall(r"`((?:src|specs|proofs)/[\w./+-]+)`", text_of(page)):
+            if not is_there(os.path.join(os.path.dirname(page), path)):
+                yield "%s: there is no %s in its folder" % (page, path)
+
+
+def words_of_the_tree():
+    """Each word of code, definitions, proofs, tests and scripts, and each name of a file or folder, without its ending."""
+    words = set()
+    for place, folders, names in os.walk(kit.TREE):
+        folders[:] = [it for it in folders if it not in ("out", ".git", ".unpacked", "__pycache__") and not it.startswith(".build-")]
+        words.update(it.partition(".")[0] for it in folders + names)
+        for name in names:
+            if name.endswith((".rt", ".antt", ".py", ".sh", ".toml", ".txt", ".edit", ".service", ".c")):
+                with open(os.path.join(place, name), encoding="utf-8", errors="replace") as file:
+                    words.update(re.findall(r"[A-Za-z_][A-Za-z0-9_]*", file.read()))
+    return words
+
+
+def names_that_are_gone(page, words):
+    """Names in code spans that look like a crate, a module, a function or a file, and that nothing in the tree has."""
+    for span in re.findall(r"`([^`\n]+)`", re.sub(r"^```.*?^```", "", text_of(page), flags=re.M | re.S)):
+        for name in re.findall(r"(?<![\w$%.-])[a-z][a-z0-9]*_[a-z0-9_]+(?![\w-])", span):
+            if name not in words and name not in NAMES_OF_OTHERS:
+                yield "%s: nothing is called %s" % (page, name)
 
 
 def scripts_that_are_gone():
@@ -143,6 +170,10 @@ class Pages(kit.Test):
     def test_files_that_pages_name_are_there(self):
         self.assert_none(it for page in pages() for it in missing_files(page))
         self.assert_none(scripts_that_are_gone())
+
+    def test_names_in_code_spans_are_names_of_something(self):
+        words = words_of_the_tree()
+        self.assert_none(it for page in pages() if page != "CHANGELOG.md" for it in names_that_are_gone(page, words))
 
     def test_each_crate_has_a_page_that_says_what_it_stands_on(self):
         own = crates()
