@@ -101,6 +101,19 @@ def names_that_are_gone(page, words):
                 yield "%s: nothing is called %s" % (page, name)
 
 
+def files_of_tests():
+    return {os.path.basename(it)[5:-3] for it in found("tests/test_*.py")}
+
+
+def tests_that_are_gone(page):
+    """Files of tests that a page names as words of `tests/run` and that are not there."""
+    for words in re.findall(r"`(?:[A-Z_]+=\S+ )?tests/run ([^`]+)`", text_of(page)):
+        for word in words.split():
+            name = word.split(".")[0]
+            if re.fullmatch(r"[a-z_]+", name) and name not in files_of_tests():
+                yield "%s: there is no tests/test_%s.py" % (page, name)
+
+
 def scripts_that_are_gone():
     """Scripts named try_ in a text of the tree that are not in tools."""
     texts = found("tools/*", "bench/*", "tests/*", "examples/*", "examples/*/*", "seedlinkd", ".ci/run")
@@ -170,6 +183,12 @@ class Pages(kit.Test):
     def test_files_that_pages_name_are_there(self):
         self.assert_none(it for page in pages() for it in missing_files(page))
         self.assert_none(scripts_that_are_gone())
+        self.assert_none(it for page in pages() for it in tests_that_are_gone(page))
+
+    def test_each_file_of_tests_stands_in_the_page_on_tests(self):
+        table = text_of("docs/TESTED.md").split("**Tested from outside**")[1].split("\n\n**")[0]
+        rows = [line.strip("| ").split(" | ")[-1] for line in table.splitlines() if line.startswith("| ")]
+        self.assertEqual({name for row in rows[1:] for name in re.findall(r"`([a-z_]+)`", row)}, files_of_tests())
 
     def test_names_in_code_spans_are_names_of_something(self):
         words = words_of_the_tree()

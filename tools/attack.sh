@@ -48,7 +48,7 @@ sources() {
 
 # What the copy of a run would have: the edits of attack are those of must-fail there.
 if [ "$*" = --old ]; then
-    cd "$top" || exit 2
+    cd "$top" && git ls-files --error-unmatch crates.txt >/dev/null || fail "git can't read the repository in $top"
     tree=$top
     files=$({
         sources crates | xargs -0 sha256sum
