@@ -331,7 +331,7 @@ def parse_options():
     words.add_argument("--all", action="store_true", help="also tests that are slow, or need more than Python, and what these notice")
     words.add_argument("--wrong", action="store_true", help="tries the tests, by the programs of tests/wrong; a NAME is one of these")
     words.add_argument("--program", metavar="PATH", help="the program, in place of the one that ./seedlinkd --path names")
-    words.add_argument("-j", type=int, default=os.cpu_count() or 1, metavar="N", help="so many tests side by side, and not one a processor")
+    words.add_argument("-j", type=int, default=2 * (os.cpu_count() or 1), metavar="N", help="so many tests side by side, not two a processor")
     words.add_argument("--list", action="store_true", help="prints the names of the tests, and ends")
     words.add_argument("--times", action="store_true", help="prints how long each test took, and of a processor")
     options = words.parse_args()
