@@ -24,6 +24,8 @@ import kit
 
 HERE = os.path.dirname(os.path.realpath(__file__))
 TOP = os.path.dirname(HERE)
+# Most tests wait.
+TESTS_A_PROCESSOR = 2
 # For how many seconds something is waited for in a program that is wrong, and in one that does nothing wrong: a control that is
 # noticed since the machine is busy would tell nothing.
 PATIENCE_IF_WRONG, PATIENCE_IF_RIGHT = 5, 45
@@ -331,7 +333,7 @@ def parse_options():
     words.add_argument("--all", action="store_true", help="also tests that are slow, or need more than Python, and what these notice")
     words.add_argument("--wrong", action="store_true", help="tries the tests, by the programs of tests/wrong; a NAME is one of these")
     words.add_argument("--program", metavar="PATH", help="the program, in place of the one that ./seedlinkd --path names")
-    words.add_argument("-j", type=int, default=2 * (os.cpu_count() or 1), metavar="N", help="so many tests side by side, not two a processor")
+    words.add_argument("-j", type=int, default=TESTS_A_PROCESSOR * (os.cpu_count() or 1), metavar="N", help="so many tests side by side")
     words.add_argument("--list", action="store_true", help="prints the names of the tests, and ends")
     words.add_argument("--times", action="store_true", help="prints how long each test took, and of a processor")
     options = words.parse_args()
