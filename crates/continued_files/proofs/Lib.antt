@@ -1,3 +1,3 @@
-mod WalkLemmas
 mod RunLemmas
 mod MemoryLemmas
+pub mod TailLemmas

@@ -1,33 +1,21 @@
 -- Each record stands once in the file of readers that go on one after the other.
-use Rattle.std.proofs.Common.{◌≡◌, ◌∙◌, ◌+◌, ◌<◌, ◌≤◌, ◌++◌, ◌∷◌, [], ℕ, List, length, take, ◌-◌, min, inl, inr}
-use Rattle.std.proofs.Common.{arith, refl, subst, sym, length-append, nat_lt, true, false, Bool}
-use Rattle.std.proofs.lemmas.Bool.{cases_lt}
+use Rattle.std.proofs.Common.{◌≡◌, ◌≢◌, ◌∙◌, ◌+◌, ◌<◌, ◌≤◌, ◌++◌, ◌∷◌, [], ℕ, List, length, take, ◌-◌, inl, inr}
+use Rattle.std.proofs.Common.{suc, zero, ap, arith, get_or, refl, subst, sym, length-append, true, false, Bool}
+use Rattle.std.proofs.lemmas.Bool.{cases_eq, cases_lt, eq-eqb, ne_eqb}
 use Rattle.std.proofs.lemmas.Bool.Decides.{nat_tests}
-use Rattle.std.proofs.lemmas.List.{get_or_append_left, get_or_push, get_or-take, length-take-le}
-use Rattle.std.specs.Prelude.{◌⊎◌, if◌then◌else◌}
-use Rattle.continued_files.specs.Runs.{AreDistinct, HoldsOnce, IsAmong, IsLeft, KeepsLeft, Moment, Reaches, Series}
-use Rattle.continued_files.specs.Runs.{StandsAt, Step, after_keep, after_record, after_stop, after_sync, first_moment}
+use Rattle.std.proofs.lemmas.List.{get_or_append_left, get_or_push, get_or-take}
+use Rattle.std.proofs.lemmas.List.{length-take-le}
+use Rattle.std.specs.Prelude.{◌⊎◌, if◌then◌else◌, nat_eq}
+use Rattle.continued_files.specs.Runs.{AreDistinct, AreOf, HasNumbers, HoldsOnce, IsAmong, IsOf, Moment, Numbers}
+use Rattle.continued_files.specs.Runs.{Reaches, Renews, Series, StandsAt, Step, after_keep, after_loss, after_record}
+use Rattle.continued_files.specs.Runs.{after_renewal, after_return, after_stop, after_sync, first_moment}
 use Rattle.continued_files.specs.Runs.Reaches.{Begins, Goes}
-use Rattle.continued_files.specs.Runs.Step.{Hands, Keeps, Stops, Syncs}
-use Rattle.continued_files.specs.Walks.{AreOthers, Offers, WalkValue, kept_length, missed, missed_by, record_at}
-use Rattle.continued_files.specs.Walks.Offers.{Adds, Later, Next}
-
--- what holds at each moment
-record Stands (s : Series) (m : Moment) : Type 0 where
-  once : (i j : ℕ) → i < length m.file → j < length m.file → record_at m.file i ≡ record_at m.file j → i ≡ j
-  known : (i : ℕ) → i < length m.file → (n : ℕ) × (record_at m.file i ≡ s n)
-  kept : m.kept ≤ m.synced
-  synced : m.synced ≤ length m.file
-  cursor : m.walk.cursor ≤ m.walk.end
-  end : m.walk.end ≤ length m.file
-  -- What stands in the file and may still be handed is left of the tail.
-  left : (i n : ℕ) → i < length m.file → record_at m.file i ≡ s n → m.next ≤ n
-      → (m.walk.cursor ≤ i) × (i < m.walk.end)
-  -- What is kept is not asked for.
-  asked : (i n : ℕ) → i < m.kept → record_at m.file i ≡ s n → n < m.number
-  number : m.number ≤ m.next
-  handed : (n : ℕ) → IsAmong n m.handed → (place : ℕ) × StandsAt m.file (s n) place
-  counted : (n : ℕ) → IsAmong n m.counted → (place : ℕ) × (place < m.synced) × StandsAt m.file (s n) place
+use Rattle.continued_files.specs.Runs.Step.{Forgets, Hands, Keeps, Loses, Returns, Stops, Syncs}
+use Rattle.continued_files.specs.Tails.{AreOthers, IsLeft, Offers, TailValue, all_from, first_left, first_of}
+use Rattle.continued_files.specs.Tails.{kept_length, tail_of, without}
+use Rattle.continued_files.specs.Tails.Offers.{Adds, Passes}
+use Rattle.continued_files.specs.Places.{record_at}
+use Rattle.continued_files.proofs.TailLemmas.{all-end, all-left, true-false, without-left, without-was}
 
 -- ---- numbers
 
@@ -37,228 +25,392 @@ le-refl n = omega arith
 le-trans : {a b c : ℕ} → a ≤ b → b ≤ c → a ≤ c
 le-trans h k = omega (arith, h, k)
 
--- ---- walks
+-- a and b change places
+swap : (a b x : ℕ) → ℕ
+swap a b x = if nat_eq x a then b else (if nat_eq x b then a else x)
 
-abbrev Missed : WalkValue → WalkValue → Type 0
-Missed w v = (v.end ≡ w.end) × (w.cursor ≤ w.end → v.cursor ≤ w.end)
+data Swapped (a b x y : ℕ) : Type 0 where
+  First : x ≡ a → y ≡ b → Swapped a b x y
+  Second : x ≢ a → x ≡ b → y ≡ a → Swapped a b x y
+  Other : x ≢ a → x ≢ b → y ≡ x → Swapped a b x y
 
-missed-by-within : (b : Bool) (w : WalkValue) → Missed w (missed_by b w)
-missed-by-within true w = (refl, λ low. low)
-missed-by-within false w = (refl, λ low. le-refl w.end)
-
-missed-within : (w : WalkValue) → Missed w (missed w)
-missed-within w = missed-by-within (nat_lt (w.end - w.cursor) (1048576 - w.tries)) w
-
--- where a walk is after a record was offered
-record IsWithin (w : WalkValue) (file file' : List (List ℕ)) : Type 0 where
-  cursor : w.cursor ≤ w.end
-  end : w.end ≤ length file'
-
-offered-within : (w w' : WalkValue) (rs rs' : List (List ℕ)) (r : List ℕ) → w.cursor ≤ w.end → w.end ≤ length rs
-    → Offers w rs r w' rs' → IsWithin w' rs rs'
-offered-within w _ rs _ r low end (Next below here) = record { cursor = omega arith; end = end }
-offered-within w _ rs _ r low end (Later place above below here others) = record { cursor = low; end = end }
-offered-within w _ rs _ r low end (Adds others) =
-    let m = missed-within w in
-    let size : length (rs ++ r ∷ []) ≡ length rs + 1 = length-append rs (r ∷ []) in
-    record { cursor = omega (arith, m.0, m.1 low); end = omega (arith, m.0, size) }
-
--- ---- what stands in a file to which a record was offered
-
--- what stood there stands there
-offered-keeps : (w w' : WalkValue) (rs rs' : List (List ℕ)) (r x : List ℕ) (place : ℕ) → Offers w rs r w' rs'
-    → StandsAt rs x place → StandsAt rs' x place
-offered-keeps w _ rs _ r x place (Next below here) at = at
-offered-keeps w _ rs _ r x place (Later p above below here others) at = at
-offered-keeps w _ rs _ r x place (Adds others) at =
-    let size : length (rs ++ r ∷ []) ≡ length rs + 1 = length-append rs (r ∷ []) in
-    let low : place < length rs = at.0 in
-    (omega (arith, size, low), get_or_append_left rs (r ∷ []) [] place low ∙ at.1)
-
--- and so does the record
-offered-stands : (w w' : WalkValue) (rs rs' : List (List ℕ)) (r : List ℕ) → w.end ≤ length rs → Offers w rs r w' rs'
-    → (place : ℕ) × StandsAt rs' r place
-offered-stands w _ rs _ r end (Next below here) = (w.cursor, (omega arith, here))
-offered-stands w _ rs _ r end (Later place above below here others) = (place, (omega arith, here))
-offered-stands w _ rs _ r end (Adds others) =
-    let size : length (rs ++ r ∷ []) ≡ length rs + 1 = length-append rs (r ∷ []) in
-    (length rs, (omega (arith, size), get_or_push rs r [] (length rs) refl))
-
--- A place of the new file is one of the old one, with the same record, or the record is new and stands behind all that
--- stood there, and nowhere in what was left of the tail.
-data Place (w : WalkValue) (rs rs' : List (List ℕ)) (r : List ℕ) (place : ℕ) : Type 0 where
-  Old : place < length rs → record_at rs' place ≡ record_at rs place → Place w rs rs' r place
-  New : place ≡ length rs → record_at rs' place ≡ r → AreOthers rs w.cursor w.end r → Place w rs rs' r place
-
-offered-place : (w w' : WalkValue) (rs rs' : List (List ℕ)) (r : List ℕ) (place : ℕ) → Offers w rs r w' rs'
-    → place < length rs' → Place w rs rs' r place
-offered-place w _ rs _ r place (Next below here) low = Old low refl
-offered-place w _ rs _ r place (Later p above below here others) low = Old low refl
-offered-place w _ rs _ r place (Adds others) low =
-    let size : length (rs ++ r ∷ []) ≡ length rs + 1 = length-append rs (r ∷ []) in
-    elim (cases_lt place (length rs)) [
-      | inl under ↦ Old under (get_or_append_left rs (r ∷ []) [] place under)
-      | inr over ↦
-          let is : place ≡ length rs = omega (arith, size, low, over) in
-          New is (get_or_push rs r [] place (sym is)) others
+swapped : (a b x : ℕ) → Swapped a b x (swap a b x)
+unfolding swap
+swapped a b x =
+    elim (cases_eq x a) [
+      | inl is ↦ First is (ap (λ t. if t then b else (if nat_eq x b then a else x)) (eq-eqb x a is))
+      | inr not ↦
+          let out = ap (λ t. if t then b else (if nat_eq x b then a else x)) (ne_eqb x a not) in
+          elim (cases_eq x b) [
+            | inl is ↦ Second not is (out ∙ ap (λ t. if t then a else x) (eq-eqb x b is))
+            | inr differs ↦ Other not differs (out ∙ ap (λ t. if t then a else x) (ne_eqb x b differs))
+          ]
     ]
 
-offered-length : (w w' : WalkValue) (rs rs' : List (List ℕ)) (r : List ℕ) → Offers w rs r w' rs'
-    → length rs ≤ length rs'
-offered-length w _ rs _ r (Next below here) = le-refl (length rs)
-offered-length w _ rs _ r (Later place above below here others) = le-refl (length rs)
-offered-length w _ rs _ r (Adds others) =
-    let size : length (rs ++ r ∷ []) ≡ length rs + 1 = length-append rs (r ∷ []) in omega (arith, size)
+swap-apart : (a b x y : ℕ) → swap a b x ≡ swap a b y → x ≡ y
+swap-apart a b x y same =
+    elim (swapped a b x) [
+      | First xa is ↦
+          elim (swapped a b y) [
+            | First ya is2 ↦ xa ∙ sym ya
+            | Second ya yb is2 ↦ absurd (ya (yb ∙ (sym is ∙ same ∙ is2)))
+            | Other ya yb is2 ↦ absurd (yb (sym (sym is ∙ same ∙ is2)))
+          ]
+      | Second xa xb is ↦
+          elim (swapped a b y) [
+            | First ya is2 ↦ absurd (xa (xb ∙ sym (sym is ∙ same ∙ is2)))
+            | Second ya yb is2 ↦ xb ∙ sym yb
+            | Other ya yb is2 ↦ absurd (ya (sym (sym is ∙ same ∙ is2)))
+          ]
+      | Other xa xb is ↦
+          elim (swapped a b y) [
+            | First ya is2 ↦ absurd (xb (sym is ∙ same ∙ is2))
+            | Second ya yb is2 ↦ absurd (xa (sym is ∙ same ∙ is2))
+            | Other ya yb is2 ↦ sym is ∙ same ∙ is2
+          ]
+    ]
 
--- ---- a record is handed
+-- one place more
+put : (at n : ℕ) (number : ℕ → ℕ) → ℕ → ℕ
+put at n number i = if nat_eq i at then n else number i
+
+put-here : (at n : ℕ) (number : ℕ → ℕ) (i : ℕ) → i ≡ at → put at n number i ≡ n
+unfolding put
+put-here at n number i is = ap (λ t. if t then n else number i) (eq-eqb i at is)
+
+put-other : (at n : ℕ) (number : ℕ → ℕ) (i : ℕ) → i < at → put at n number i ≡ number i
+unfolding put
+put-other at n number i low = ap (λ t. if t then n else number i) (ne_eqb i at (λ is. omega (arith, is, low)))
+
+-- ---- what holds at each moment
+
+record Stands (s : Series) (m : Moment) (number : ℕ → ℕ) : Type 0 where
+  numbers : HasNumbers s m.file number
+  kept : (m.kept ≤ m.synced) ⊎ (length m.file < m.kept)
+  synced : m.synced ≤ length m.file
+  end : (i : ℕ) → IsLeft m.tail i → i < length m.file
+  -- What stands in the file and may still be handed is left of the tail.
+  left : (i : ℕ) → i < length m.file → IsOf m.comes (number i) → IsLeft m.tail i
+  -- What is counted is not asked for.
+  asked : m.kept ≤ length m.file → (i : ℕ) → i < m.kept → IsOf m.asked (number i) → ⊥
+  free : AreDistinct s ⊎ (m.kept ≤ length m.file → (i : ℕ) → IsLeft m.tail i → m.kept ≤ i)
+  handed : (n : ℕ) → IsAmong n m.handed → (place : ℕ) × StandsAt m.file (s n) place
+  counted : (n : ℕ) → IsAmong n m.counted → (place : ℕ) × (place < m.synced) × StandsAt m.file (s n) place
+
+-- ---- a record is handed that stands at a place which is left
 
 -- what holds before it, and what is handed
-record Given (s : Series) (m : Moment) (n : ℕ) (w : WalkValue) (file : List (List ℕ)) : Type 0 where
-  stands : Stands s m
-  low : m.next ≤ n
-  offers : Offers m.walk m.file (s n) w file
-  keeps : KeepsLeft s m.file n m.walk w
+record Met (s : Series) (m : Moment) (number : ℕ → ℕ) (n place : ℕ) (comes : Numbers) : Type 0 where
+  stands : Stands s m number
+  may : IsOf m.comes n
+  fewer : AreOf comes m.comes
+  once : IsOf comes n → ⊥
+  at : IsLeft m.tail place
+  here : record_at m.file place ≡ s n
 
--- the record doesn't stand in the file if it was added
-added-apart : (s : Series) (m : Moment) (n : ℕ) (w : WalkValue) (file : List (List ℕ)) (i : ℕ) → Given s m n w file
-    → AreOthers m.file m.walk.cursor m.walk.end (s n) → i < length m.file → record_at m.file i ≡ s n → ⊥
-added-apart s m n w file i g others low here =
-    let at = g.stands.left i n low here g.low in others i at.0 at.1 here
+-- its number is that of the place, from now on
+renumbered : (n place : ℕ) (number : ℕ → ℕ) → ℕ → ℕ
+renumbered n place number i = swap n (number place) (number i)
 
-handed-once : (s : Series) (m : Moment) (n : ℕ) (w : WalkValue) (file : List (List ℕ)) → Given s m n w file
-    → (i j : ℕ) → i < length file → j < length file → record_at file i ≡ record_at file j → i ≡ j
-handed-once s m n w file g i j lowi lowj same =
-    elim (offered-place m.walk w m.file file (s n) i g.offers lowi) [
-      | Old ilow iis ↦
-          elim (offered-place m.walk w m.file file (s n) j g.offers lowj) [
-            | Old jlow jis ↦ g.stands.once i j ilow jlow (sym iis ∙ same ∙ jis)
-            | New jat jis others ↦ absurd (added-apart s m n w file i g others ilow (sym iis ∙ same ∙ jis))
-          ]
-      | New iat iis others ↦
-          elim (offered-place m.walk w m.file file (s n) j g.offers lowj) [
-            | Old jlow jis ↦ absurd (added-apart s m n w file j g others jlow (sym jis ∙ sym same ∙ iis))
-            | New jat jis others2 ↦ iat ∙ sym jat
-          ]
-    ]
+met-below : (s : Series) (m : Moment) (number : ℕ → ℕ) (n place : ℕ) (comes : Numbers) → Met s m number n place comes
+    → place < length m.file
+met-below s m number n place comes g = g.stands.end place g.at
 
-handed-known : (s : Series) (m : Moment) (n : ℕ) (w : WalkValue) (file : List (List ℕ)) → Given s m n w file
-    → (i : ℕ) → i < length file → (k : ℕ) × (record_at file i ≡ s k)
-handed-known s m n w file g i low =
-    elim (offered-place m.walk w m.file file (s n) i g.offers low) [
-      | Old ilow iis ↦ let was = g.stands.known i ilow in (was.0, iis ∙ was.1)
-      | New iat iis others ↦ (n, iis)
-    ]
-
--- what may be handed later is left of the tail
-handed-left : (s : Series) (m : Moment) (n : ℕ) (w : WalkValue) (file : List (List ℕ)) → AreDistinct s
-    → Given s m n w file → (i k : ℕ) → i < length file → record_at file i ≡ s k → n + 1 ≤ k
-    → (w.cursor ≤ i) × (i < w.end)
-handed-left s m n w file distinct g i k low here later =
-    elim (offered-place m.walk w m.file file (s n) i g.offers low) [
-      | Old ilow iis ↦
-          let old : record_at m.file i ≡ s k = sym iis ∙ here in
-          let was = g.stands.left i k ilow old (let from : m.next ≤ n = g.low in omega (arith, from, later)) in
-          let l : IsLeft m.file w (s k) =
-          g.keeps k (omega (arith, later)) (record { place = i; stands = (ilow, old); from = was.0; before = was.1 }) in
-          let is : l.place ≡ i = g.stands.once l.place i l.stands.0 ilow (l.stands.1 ∙ sym old) in
-          (subst (λ p. w.cursor ≤ p) is l.from, subst (λ p. p < w.end) is l.before)
-      | New iat iis others ↦
-          let is : k ≡ n = distinct k n (sym here ∙ iis) in absurd (omega (arith, is, later))
-    ]
-
-handed-asked : (s : Series) (m : Moment) (n : ℕ) (w : WalkValue) (file : List (List ℕ)) → Given s m n w file
-    → (i k : ℕ) → i < m.kept → record_at file i ≡ s k → k < m.number
-handed-asked s m n w file g i k low here =
-    let kept : m.kept ≤ m.synced = g.stands.kept in
-    let synced : m.synced ≤ length m.file = g.stands.synced in
-    let within : i < length m.file = omega (arith, kept, synced, low) in
-    let stays = offered-keeps m.walk w m.file file (s n) (record_at m.file i) i g.offers (within, refl) in
-    g.stands.asked i k low (sym stays.1 ∙ here)
-
-handed-all : (s : Series) (m : Moment) (n : ℕ) (w : WalkValue) (file : List (List ℕ)) → Given s m n w file
-    → (k : ℕ) → IsAmong k (n ∷ m.handed) → (place : ℕ) × StandsAt file (s k) place
-handed-all s m n w file g k (inl is) =
-    let at = offered-stands m.walk w m.file file (s n) g.stands.end g.offers in
-    subst (λ x. (place : ℕ) × StandsAt file (s x) place) is at
-handed-all s m n w file g k (inr among) =
-    let at = g.stands.handed k among in
-    (at.0, offered-keeps m.walk w m.file file (s n) (s k) at.0 g.offers at.1)
-
-handed-counted : (s : Series) (m : Moment) (n : ℕ) (w : WalkValue) (file : List (List ℕ)) → Given s m n w file
-    → (k : ℕ) → IsAmong k m.counted → (place : ℕ) × (place < m.synced) × StandsAt file (s k) place
-handed-counted s m n w file g k among =
-    let at = g.stands.counted k among in
-    (at.0, at.1, offered-keeps m.walk w m.file file (s n) (s k) at.0 g.offers at.2)
-
-after-record : (s : Series) (m : Moment) (n : ℕ) (w : WalkValue) (file : List (List ℕ)) → AreDistinct s
-    → Given s m n w file → Stands s (after_record m n w file)
-after-record s m n w file distinct g =
-    let within = offered-within m.walk w m.file file (s n) g.stands.cursor g.stands.end g.offers in
-    let synced : m.synced ≤ length m.file = g.stands.synced in
-    let number : m.number ≤ m.next = g.stands.number in
-    let low : m.next ≤ n = g.low in
+met-numbers : (s : Series) (m : Moment) (number : ℕ → ℕ) (n place : ℕ) (comes : Numbers)
+    → Met s m number n place comes → HasNumbers s m.file (renumbered n place number)
+unfolding renumbered
+met-numbers s m number n place comes g =
+    let low = met-below s m number n place comes g in
+    let same : s (number place) ≡ s n = sym (g.stands.numbers.known place low) ∙ g.here in
     record {
-      once = handed-once s m n w file g;
-      known = handed-known s m n w file g;
-      kept = g.stands.kept;
-      synced = omega (arith, synced, offered-length m.walk w m.file file (s n) g.offers);
-      cursor = within.cursor;
-      end = within.end;
-      left = handed-left s m n w file distinct g;
-      asked = handed-asked s m n w file g;
-      number = omega (arith, number, low);
-      handed = handed-all s m n w file g;
-      counted = handed-counted s m n w file g;
+      known = λ i ilow.
+          let was = g.stands.numbers.known i ilow in
+          elim (swapped n (number place) (number i)) [
+            | First is after ↦ was ∙ ap s is ∙ sym same ∙ ap s (sym after)
+            | Second not is after ↦ was ∙ ap s is ∙ same ∙ ap s (sym after)
+            | Other not differs after ↦ was ∙ ap s (sym after)
+          ];
+      apart = λ i j ilow jlow is.
+          g.stands.numbers.apart i j ilow jlow (swap-apart n (number place) (number i) (number j) is);
     }
+
+met-left : (s : Series) (m : Moment) (number : ℕ → ℕ) (n place : ℕ) (comes : Numbers) → Met s m number n place comes
+    → (i : ℕ) → i < length m.file → IsOf comes (renumbered n place number i) → IsLeft (without m.tail place) i
+unfolding renumbered
+met-left s m number n place comes g i low may =
+    let below = met-below s m number n place comes g in
+    elim (swapped n (number place) (number i)) [
+      | First is after ↦
+          let at = g.stands.left i low (subst (IsOf m.comes) (sym is) g.may) in
+          without-left m.tail place i g.at at
+          (λ there. g.once (subst (IsOf comes) (after ∙ ap number (sym there) ∙ is) may))
+      | Second not is after ↦ absurd (g.once (subst (IsOf comes) after may))
+      | Other not differs after ↦
+          let at = g.stands.left i low (g.fewer (number i) (subst (IsOf comes) after may)) in
+          without-left m.tail place i g.at at (λ there. differs (ap number there))
+    ]
+
+met-asked : (s : Series) (m : Moment) (number : ℕ → ℕ) (n place : ℕ) (comes : Numbers) → Met s m number n place comes
+    → m.kept ≤ length m.file → (i : ℕ) → i < m.kept → IsOf m.asked (renumbered n place number i) → ⊥
+unfolding renumbered
+met-asked s m number n place comes g size i low may =
+    let below = met-below s m number n place comes g in
+    let ilow : i < length m.file = omega (arith, size, low) in
+    elim g.stands.free [
+      | inl distinct ↦
+          let is : number place ≡ n = distinct (number place) n (sym (g.stands.numbers.known place below) ∙ g.here) in
+          elim (swapped n (number place) (number i)) [
+            | First here after ↦
+                g.stands.asked size i low (subst (IsOf m.asked) (after ∙ is ∙ sym here) may)
+            | Second not here after ↦
+                g.stands.asked size i low (subst (IsOf m.asked) (after ∙ sym is ∙ sym here) may)
+            | Other not differs after ↦ g.stands.asked size i low (subst (IsOf m.asked) after may)
+          ]
+      | inr free ↦
+          elim (swapped n (number place) (number i)) [
+            | First here after ↦
+                let over : m.kept ≤ i = free size i (g.stands.left i ilow (subst (IsOf m.comes) (sym here) g.may)) in
+                absurd (omega (arith, over, low))
+            | Second not here after ↦
+                let there : i ≡ place = g.stands.numbers.apart i place ilow below here in
+                let over : m.kept ≤ place = free size place g.at in
+                absurd (omega (arith, over, low, there))
+            | Other not differs after ↦ g.stands.asked size i low (subst (IsOf m.asked) after may)
+          ]
+    ]
+
+met-free : (s : Series) (m : Moment) (place : ℕ)
+    → AreDistinct s ⊎ (m.kept ≤ length m.file → (i : ℕ) → IsLeft m.tail i → m.kept ≤ i)
+    → AreDistinct s ⊎ (m.kept ≤ length m.file → (i : ℕ) → IsLeft (without m.tail place) i → m.kept ≤ i)
+met-free s m place (inl distinct) = inl distinct
+met-free s m place (inr free) = inr (λ size i at. free size i (without-was m.tail place i at))
+
+met-handed : (s : Series) (m : Moment) (number : ℕ → ℕ) (n place : ℕ) (comes : Numbers)
+    → Met s m number n place comes → (k : ℕ) → IsAmong k (n ∷ m.handed) → (at : ℕ) × StandsAt m.file (s k) at
+met-handed s m number n place comes g k (inl is) =
+    let below = met-below s m number n place comes g in (place, (below, g.here ∙ ap s is))
+met-handed s m number n place comes g k (inr among) = g.stands.handed k among
+
+after-met : (s : Series) (m : Moment) (number : ℕ → ℕ) (n place : ℕ) (comes : Numbers)
+    → Met s m number n place comes
+    → Stands s (after_record m n comes (without m.tail place) m.file) (renumbered n place number)
+after-met s m number n place comes g =
+    record {
+      numbers = met-numbers s m number n place comes g;
+      kept = g.stands.kept;
+      synced = g.stands.synced;
+      end = λ i at. g.stands.end i (without-was m.tail place i at);
+      left = met-left s m number n place comes g;
+      asked = met-asked s m number n place comes g;
+      free = met-free s m place g.stands.free;
+      handed = met-handed s m number n place comes g;
+      counted = g.stands.counted;
+    }
+
+-- ---- a record is handed that stands at no place which is left
+
+record Missed (s : Series) (m : Moment) (number : ℕ → ℕ) (n : ℕ) (comes : Numbers) : Type 0 where
+  stands : Stands s m number
+  may : IsOf m.comes n
+  fewer : AreOf comes m.comes
+  once : IsOf comes n → ⊥
+  short : length m.file < m.kept → length (m.file ++ s n ∷ []) < m.kept
+  others : AreOthers m.tail m.file (s n)
+
+-- its number is that of the new place
+numbered : (m : Moment) (n : ℕ) (number : ℕ → ℕ) → ℕ → ℕ
+numbered m n number = put (length m.file) n number
+
+push-length : (rs : List (List ℕ)) (r : List ℕ) → length (rs ++ r ∷ []) ≡ length rs + 1
+push-length rs r = length-append rs (r ∷ [])
+
+-- no place has it yet
+missed-apart : (s : Series) (m : Moment) (number : ℕ → ℕ) (n : ℕ) (comes : Numbers) → Missed s m number n comes
+    → (i : ℕ) → i < length m.file → number i ≡ n → ⊥
+missed-apart s m number n comes g i low is =
+    g.others i (g.stands.left i low (subst (IsOf m.comes) (sym is) g.may))
+    (g.stands.numbers.known i low ∙ ap s is)
+
+-- a place of the file after it
+data Place (m : Moment) (n : ℕ) (number : ℕ → ℕ) (r : List ℕ) (i : ℕ) : Type 0 where
+  Old : i < length m.file → numbered m n number i ≡ number i → record_at (m.file ++ r ∷ []) i ≡ record_at m.file i
+      → Place m n number r i
+  New : i ≡ length m.file → numbered m n number i ≡ n → record_at (m.file ++ r ∷ []) i ≡ r → Place m n number r i
+
+place-of : (m : Moment) (n : ℕ) (number : ℕ → ℕ) (r : List ℕ) (i : ℕ) → i < length (m.file ++ r ∷ [])
+    → Place m n number r i
+unfolding numbered
+place-of m n number r i low =
+    let size = push-length m.file r in
+    elim (cases_lt i (length m.file)) [
+      | inl under ↦
+          Old under (put-other (length m.file) n number i under) (get_or_append_left m.file (r ∷ []) [] i under)
+      | inr over ↦
+          let is : i ≡ length m.file = omega (arith, size, low, over) in
+          New is (put-here (length m.file) n number i is) (get_or_push m.file r [] i (sym is))
+    ]
+
+missed-numbers : (s : Series) (m : Moment) (number : ℕ → ℕ) (n : ℕ) (comes : Numbers) → Missed s m number n comes
+    → HasNumbers s (m.file ++ s n ∷ []) (numbered m n number)
+missed-numbers s m number n comes g =
+    record {
+      known = λ i low.
+          elim (place-of m n number (s n) i low) [
+            | Old under is stays ↦ stays ∙ g.stands.numbers.known i under ∙ ap s (sym is)
+            | New here is new ↦ new ∙ ap s (sym is)
+          ];
+      apart = λ i j ilow jlow same.
+          elim (place-of m n number (s n) i ilow) [
+            | Old iunder iis istays ↦
+                elim (place-of m n number (s n) j jlow) [
+                  | Old junder jis jstays ↦
+                      g.stands.numbers.apart i j iunder junder (sym iis ∙ same ∙ jis)
+                  | New jhere jis jnew ↦
+                      absurd (missed-apart s m number n comes g i iunder (sym iis ∙ same ∙ jis))
+                ]
+            | New ihere iis inew ↦
+                elim (place-of m n number (s n) j jlow) [
+                  | Old junder jis jstays ↦
+                      absurd (missed-apart s m number n comes g j junder (sym jis ∙ sym same ∙ iis))
+                  | New jhere jis jnew ↦ ihere ∙ sym jhere
+                ]
+          ];
+    }
+
+missed-left : (s : Series) (m : Moment) (number : ℕ → ℕ) (n : ℕ) (comes : Numbers) → Missed s m number n comes
+    → (i : ℕ) → i < length (m.file ++ s n ∷ []) → IsOf comes (numbered m n number i) → IsLeft m.tail i
+missed-left s m number n comes g i low may =
+    elim (place-of m n number (s n) i low) [
+      | Old under is stays ↦ g.stands.left i under (g.fewer (number i) (subst (IsOf comes) is may))
+      | New here is new ↦ absurd (g.once (subst (IsOf comes) is may))
+    ]
+
+-- a file that is as long as the state counts was so before
+missed-size : (s : Series) (m : Moment) (number : ℕ → ℕ) (n : ℕ) (comes : Numbers) → Missed s m number n comes
+    → m.kept ≤ length (m.file ++ s n ∷ []) → m.kept ≤ length m.file
+missed-size s m number n comes g size =
+    elim (cases_lt (length m.file) m.kept) [
+      | inl short ↦ let still = g.short short in absurd (omega (arith, still, size))
+      | inr long ↦ long
+    ]
+
+missed-asked : (s : Series) (m : Moment) (number : ℕ → ℕ) (n : ℕ) (comes : Numbers) → Missed s m number n comes
+    → m.kept ≤ length (m.file ++ s n ∷ []) → (i : ℕ) → i < m.kept → IsOf m.asked (numbered m n number i) → ⊥
+missed-asked s m number n comes g size i low may =
+    let was = missed-size s m number n comes g size in
+    elim (place-of m n number (s n) i (omega (arith, size, low))) [
+      | Old under is stays ↦ g.stands.asked was i low (subst (IsOf m.asked) is may)
+      | New here is new ↦ absurd (omega (arith, here, was, low))
+    ]
+
+missed-free : (s : Series) (m : Moment) (number : ℕ → ℕ) (n : ℕ) (comes : Numbers) → Missed s m number n comes
+    → AreDistinct s ⊎ (m.kept ≤ length m.file → (i : ℕ) → IsLeft m.tail i → m.kept ≤ i)
+    → AreDistinct s ⊎ (m.kept ≤ length (m.file ++ s n ∷ []) → (i : ℕ) → IsLeft m.tail i → m.kept ≤ i)
+missed-free s m number n comes g (inl distinct) = inl distinct
+missed-free s m number n comes g (inr free) = inr (λ size i at. free (missed-size s m number n comes g size) i at)
+
+missed-kept : (s : Series) (m : Moment) (number : ℕ → ℕ) (n : ℕ) (comes : Numbers) → Missed s m number n comes
+    → (m.kept ≤ m.synced) ⊎ (length (m.file ++ s n ∷ []) < m.kept)
+missed-kept s m number n comes g =
+    elim g.stands.kept [ inl kept ↦ inl kept | inr short ↦ inr (g.short short) ]
+
+push-stands : (rs : List (List ℕ)) (r x : List ℕ) (i : ℕ) → StandsAt rs x i → StandsAt (rs ++ r ∷ []) x i
+push-stands rs r x i at =
+    let size = push-length rs r in
+    let low : i < length rs = at.0 in
+    (omega (arith, size, low), get_or_append_left rs (r ∷ []) [] i low ∙ at.1)
+
+missed-handed : (s : Series) (m : Moment) (number : ℕ → ℕ) (n : ℕ) (comes : Numbers) → Missed s m number n comes
+    → (k : ℕ) → IsAmong k (n ∷ m.handed) → (at : ℕ) × StandsAt (m.file ++ s n ∷ []) (s k) at
+missed-handed s m number n comes g k (inl is) =
+    let size = push-length m.file (s n) in
+    (length m.file, (omega (arith, size), get_or_push m.file (s n) [] (length m.file) refl ∙ ap s is))
+missed-handed s m number n comes g k (inr among) =
+    let at = g.stands.handed k among in (at.0, push-stands m.file (s n) (s k) at.0 at.1)
+
+missed-counted : (s : Series) (m : Moment) (number : ℕ → ℕ) (n : ℕ) (comes : Numbers) → Missed s m number n comes
+    → (k : ℕ) → IsAmong k m.counted → (at : ℕ) × (at < m.synced) × StandsAt (m.file ++ s n ∷ []) (s k) at
+missed-counted s m number n comes g k among =
+    let at = g.stands.counted k among in (at.0, at.1, push-stands m.file (s n) (s k) at.0 at.2)
+
+after-missed : (s : Series) (m : Moment) (number : ℕ → ℕ) (n : ℕ) (comes : Numbers) → Missed s m number n comes
+    → Stands s (after_record m n comes m.tail (m.file ++ s n ∷ [])) (numbered m n number)
+after-missed s m number n comes g =
+    let size = push-length m.file (s n) in
+    let synced : m.synced ≤ length m.file = g.stands.synced in
+    record {
+      numbers = missed-numbers s m number n comes g;
+      kept = missed-kept s m number n comes g;
+      synced = omega (arith, synced, size);
+      end = λ i at. let low : i < length m.file = g.stands.end i at in omega (arith, size, low);
+      left = missed-left s m number n comes g;
+      asked = missed-asked s m number n comes g;
+      free = missed-free s m number n comes g g.stands.free;
+      handed = missed-handed s m number n comes g;
+      counted = missed-counted s m number n comes g;
+    }
+
+after-hands : (s : Series) (m : Moment) (number : ℕ → ℕ) (n : ℕ) (comes : Numbers) (tail : TailValue)
+    (file : List (List ℕ)) → Stands s m number → IsOf m.comes n → AreOf comes m.comes → (IsOf comes n → ⊥)
+    → (length m.file < m.kept → length file < m.kept) → Offers m.tail m.file (s n) tail file
+    → (number' : ℕ → ℕ) × Stands s (after_record m n comes tail file) number'
+after-hands s m number n comes _ _ h may fewer once short (Passes place at here) =
+    let g : Met s m number n place comes =
+    record { stands = h; may = may; fewer = fewer; once = once; at = at; here = here } in
+    (renumbered n place number, after-met s m number n place comes g)
+after-hands s m number n comes _ _ h may fewer once short (Adds others) =
+    let g : Missed s m number n comes =
+    record { stands = h; may = may; fewer = fewer; once = once; short = short; others = others } in
+    (numbered m n number, after-missed s m number n comes g)
 
 -- ---- what stands is synced
 
-after-sync : (s : Series) (m : Moment) → Stands s m → Stands s (after_sync m)
-after-sync s m h =
+after-sync : (s : Series) (m : Moment) (number : ℕ → ℕ) → Stands s m number → Stands s (after_sync m) number
+after-sync s m number h =
     record {
-      once = h.once;
-      known = h.known;
-      kept = le-trans h.kept h.synced;
+      numbers = h.numbers;
+      kept = elim h.kept [ inl kept ↦ inl (le-trans kept h.synced) | inr short ↦ inr short ];
       synced = le-refl (length m.file);
-      cursor = h.cursor;
       end = h.end;
       left = h.left;
       asked = h.asked;
-      number = h.number;
+      free = h.free;
       handed = h.handed;
       counted = λ n among. let at = h.counted n among in (at.0, at.2.0, at.2);
     }
 
--- ---- the state is kept
+-- ---- a state is kept
 
-not-below : (m n : ℕ) → nat_lt m n ≡ false → m < n → ⊥
-not-below m n is below = grind (arith, nat_tests)
+-- no place before the first one that is left is left
+first-apart : (at : ℕ) (left : List Bool) (count k : ℕ) → at + k < first_left at left count
+    → get_or left k false ≡ true → ⊥
+first-apart at [] count k below is = true-false false is refl
+first-apart at (true ∷ left) count k below is = omega (arith, below)
+first-apart at (false ∷ left) count zero below is = true-false false is refl
+first-apart at (false ∷ left) count (suc k) below is =
+    first-apart (at + 1) left count k (omega (arith, below)) is
 
-kept-length-le : (b : Bool) (cursor count : ℕ) → cursor ≤ count → (if b then cursor else count) ≤ count
-kept-length-le true cursor count low = low
-kept-length-le false cursor count low = le-refl count
+first-count : (at : ℕ) (left : List Bool) (count : ℕ) → ((k : ℕ) → get_or left k false ≡ true → at + k < count)
+    → first_left at left count ≤ count
+first-count at [] count within = le-refl count
+first-count at (true ∷ left) count within = let low : at + 0 < count = within 0 refl in omega (arith, low)
+first-count at (false ∷ left) count within =
+    first-count (at + 1) left count
+    (λ k is. let low : at + suc k < count = within (suc k) is in omega (arith, low))
 
-kept-apart-by : (b : Bool) (w : WalkValue) (count i : ℕ) → nat_lt w.cursor w.end ≡ b
-    → i < (if b then w.cursor else count) → w.cursor ≤ i → i < w.end → ⊥
-kept-apart-by true w count i is below from before = omega (arith, below, from)
-kept-apart-by false w count i is below from before =
-    not-below w.cursor w.end is (omega (arith, from, before))
+kept-apart : (t : TailValue) (count i : ℕ) → i < kept_length t count → IsLeft t i → ⊥
+kept-apart t count i below at =
+    let low : t.from ≤ i = at.0 in
+    let is : t.from + (i - t.from) ≡ i = omega (arith, low) in
+    first-apart t.from t.left count (i - t.from) (omega (arith, is, below)) at.1
 
--- what stands before the length that is kept is not left of the tail
-kept-apart : (w : WalkValue) (count i : ℕ) → i < kept_length w count → w.cursor ≤ i → i < w.end → ⊥
-kept-apart w count i below from before = kept-apart-by (nat_lt w.cursor w.end) w count i refl below from before
-
-kept-asked : (s : Series) (m : Moment) → Stands s m → (i n : ℕ) → i < kept_length m.walk (length m.file)
-    → record_at m.file i ≡ s n → n < m.next
-kept-asked s m h i n below here =
-    elim (cases_lt n m.next) [
-      | inl under ↦ under
-      | inr over ↦
-          let size = kept-length-le (nat_lt m.walk.cursor m.walk.end) m.walk.cursor (length m.file)
-          (le-trans h.cursor h.end) in
-          let at = h.left i n (omega (arith, below, size)) here over in
-          absurd (kept-apart m.walk (length m.file) i below at.0 at.1)
-    ]
+kept-count : (t : TailValue) (count : ℕ) → ((i : ℕ) → IsLeft t i → i < count) → kept_length t count ≤ count
+kept-count t count within =
+    first-count t.from t.left count
+    (λ k is. within (t.from + k)
+    (let low : t.from ≤ t.from + k = omega arith in
+    let same : k ≡ (t.from + k) - t.from = omega arith in
+    (low, subst (λ j. get_or t.left j false ≡ true) same is)))
 
 among-append : (n : ℕ) (xs ys : List ℕ) → IsAmong n (xs ++ ys) → IsAmong n xs ⊎ IsAmong n ys
 among-append n [] ys h = inr h
@@ -266,32 +418,53 @@ among-append n (x ∷ xs) ys (inl is) = inl (inl is)
 among-append n (x ∷ xs) ys (inr among) =
     elim (among-append n xs ys among) [ inl left ↦ inl (inr left) | inr right ↦ inr right ]
 
-kept-counted : (s : Series) (m : Moment) → Stands s m → m.synced ≡ length m.file → (n : ℕ)
+kept-counted : (s : Series) (m : Moment) (number : ℕ → ℕ) → Stands s m number → m.synced ≡ length m.file → (n : ℕ)
     → IsAmong n (m.handed ++ m.counted) → (place : ℕ) × (place < m.synced) × StandsAt m.file (s n) place
-kept-counted s m h all n among =
+kept-counted s m number h all n among =
     elim (among-append n m.handed m.counted among) [
       | inl here ↦ let at = h.handed n here in (at.0, subst (λ x. at.0 < x) (sym all) at.1.0, at.1)
       | inr before ↦ h.counted n before
     ]
 
-after-keep : (s : Series) (m : Moment) → Stands s m → m.synced ≡ length m.file → Stands s (after_keep m)
-after-keep s m h all =
+after-keep : (s : Series) (m : Moment) (number : ℕ → ℕ) (kept : ℕ) (asked : Numbers) → Stands s m number
+    → m.synced ≡ length m.file → kept ≤ kept_length m.tail (length m.file) → AreOf asked m.comes
+    → Stands s (after_keep m kept asked) number
+after-keep s m number kept asked h all low fewer =
+    let size = kept-count m.tail (length m.file) h.end in
     record {
-      once = h.once;
-      known = h.known;
-      kept = subst (λ x. kept_length m.walk (length m.file) ≤ x) (sym all)
-          (kept-length-le (nat_lt m.walk.cursor m.walk.end) m.walk.cursor (length m.file) (le-trans h.cursor h.end));
+      numbers = h.numbers;
+      kept = inl (omega (arith, low, size, all));
       synced = h.synced;
-      cursor = h.cursor;
       end = h.end;
       left = h.left;
-      asked = kept-asked s m h;
-      number = le-refl m.next;
+      asked = λ within i below may.
+          kept-apart m.tail (length m.file) i (omega (arith, below, low))
+          (h.left i (omega (arith, below, within)) (fewer (number i) may));
+      free = inr (λ within i at.
+          elim (cases_lt i kept) [
+            | inl below ↦ absurd (kept-apart m.tail (length m.file) i (omega (arith, below, low)) at)
+            | inr over ↦ over
+          ]);
       handed = λ n among. absurd among;
-      counted = kept-counted s m h all;
+      counted = kept-counted s m number h all;
     }
 
 -- ---- a stop
+
+first-within : (kept count : ℕ) → kept ≤ count → first_of kept count ≡ kept
+first-within kept count low = grind (arith, nat_tests)
+
+first-short : (kept count : ℕ) → count < kept → first_of kept count ≡ 0
+first-short kept count low = grind (arith, nat_tests)
+
+tail-left : (kept count i : ℕ) → first_of kept count ≤ i → i < count → IsLeft (tail_of kept count) i
+tail-left kept count i low below = all-left (first_of kept count) count i low below
+
+tail-end : (kept count i : ℕ) → IsLeft (tail_of kept count) i → i < count
+tail-end kept count i at = all-end (first_of kept count) count i at
+
+tail-from : (kept count i : ℕ) → kept ≤ count → IsLeft (tail_of kept count) i → kept ≤ i
+tail-from kept count i within at = subst (λ k. k ≤ i) (first-within kept count within) at.0
 
 stop-at : (left place : ℕ) (rs : List (List ℕ)) → place < length (take left rs) → left ≤ length rs
     → (place < left) × (record_at (take left rs) place ≡ record_at rs place)
@@ -306,37 +479,49 @@ stop-stands left place rs r below size at =
     let count : length (take left rs) ≡ left = length-take-le left rs size in
     (omega (arith, count, below), get_or-take left rs place [] below ∙ at.1)
 
-after-stop : (s : Series) (m : Moment) (left : ℕ) → Stands s m → m.synced ≤ left → left ≤ length m.file
-    → Stands s (after_stop m left)
-after-stop s m left h low size =
-    let count : length (take left m.file) ≡ left = length-take-le left m.file size in
-    let kept : m.kept ≤ m.synced = h.kept in
-    let number : m.number ≤ m.next = h.number in
-    let first : min m.kept left ≡ m.kept = omega (arith, kept, low) in
+stop-numbers : (s : Series) (rs : List (List ℕ)) (number : ℕ → ℕ) (left : ℕ) → left ≤ length rs
+    → HasNumbers s rs number → HasNumbers s (take left rs) number
+stop-numbers s rs number left size h =
     record {
-      once = λ i j ilow jlow same.
-          let a = stop-at left i m.file ilow size in
-          let b = stop-at left j m.file jlow size in
-          h.once i j (let at : i < left = a.0 in omega (arith, at, size)) (let at : j < left = b.0 in omega (arith, at, size))
-          (sym a.1 ∙ same ∙ b.1);
-      known = λ i ilow.
-          let a = stop-at left i m.file ilow size in
-          let was = h.known i (let at : i < left = a.0 in omega (arith, at, size)) in (was.0, a.1 ∙ was.1);
-      kept = h.kept;
+      known = λ i low.
+          let a = stop-at left i rs low size in
+          let below : i < left = a.0 in
+          a.1 ∙ h.known i (omega (arith, below, size));
+      apart = λ i j ilow jlow same.
+          let a = stop-at left i rs ilow size in
+          let b = stop-at left j rs jlow size in
+          let ibelow : i < left = a.0 in
+          let jbelow : j < left = b.0 in
+          h.apart i j (omega (arith, ibelow, size)) (omega (arith, jbelow, size)) same;
+    }
+
+stop-left : (s : Series) (m : Moment) (number : ℕ → ℕ) (left : ℕ) → Stands s m number → m.synced ≤ left
+    → left ≤ length m.file → (i : ℕ) → i < left → IsOf m.asked (number i) → IsLeft (tail_of m.kept left) i
+stop-left s m number left h low size i below may =
+    elim h.kept [
+      | inl kept ↦
+          let first : first_of m.kept left ≡ m.kept = first-within m.kept left (omega (arith, kept, low)) in
+          elim (cases_lt i m.kept) [
+            | inl under ↦ absurd (h.asked (omega (arith, kept, low, size)) i under may)
+            | inr over ↦ tail-left m.kept left i (omega (arith, first, over)) below
+          ]
+      | inr short ↦
+          let first : first_of m.kept left ≡ 0 = first-short m.kept left (omega (arith, short, size)) in
+          tail-left m.kept left i (omega (arith, first)) below
+    ]
+
+after-stop : (s : Series) (m : Moment) (number : ℕ → ℕ) (left : ℕ) → Stands s m number → m.synced ≤ left
+    → left ≤ length m.file → Stands s (after_stop m left) number
+after-stop s m number left h low size =
+    let count : length (take left m.file) ≡ left = length-take-le left m.file size in
+    record {
+      numbers = stop-numbers s m.file number left size h.numbers;
+      kept = elim h.kept [ inl kept ↦ inl kept | inr short ↦ inr (omega (arith, short, count, size)) ];
       synced = omega (arith, count, low);
-      cursor = omega (arith, first, kept, low);
-      end = omega (arith, count);
-      left = λ i n ilow here asked.
-          let a = stop-at left i m.file ilow size in (
-            elim (cases_lt i m.kept) [
-              | inl under ↦ absurd (let below : n < m.number = h.asked i n under (sym a.1 ∙ here) in omega (arith, below, asked))
-              | inr over ↦ omega (arith, first, over)
-            ],
-            a.0,
-          );
-      asked = λ i n ilow here.
-          h.asked i n ilow (sym (get_or-take left m.file i [] (omega (arith, ilow, kept, low))) ∙ here);
-      number = le-refl m.number;
+      end = λ i at. let below : i < left = tail-end m.kept left i at in omega (arith, count, below);
+      left = λ i below may. stop-left s m number left h low size i (omega (arith, below, count)) may;
+      asked = λ within i below may. h.asked (omega (arith, within, count, size)) i below may;
+      free = inr (λ within i at. tail-from m.kept left i (omega (arith, within, count)) at);
       handed = λ n among. absurd among;
       counted = λ n among.
           let at = h.counted n among in
@@ -344,37 +529,140 @@ after-stop s m left h low size =
           (at.0, at.1, stop-stands left at.0 m.file (s n) (omega (arith, below, low)) size at.2);
     }
 
--- ---- all of them
+-- ---- another file
 
-after-first : (s : Series) (number : ℕ) → Stands s (first_moment number)
-after-first s number =
+loss-first : (kept count : ℕ) → (count < kept) ⊎ (kept ≡ 0) → first_of kept count ≡ 0
+loss-first kept count (inl short) = first-short kept count short
+loss-first kept count (inr none) = first-within kept count (omega (arith, none)) ∙ none
+
+loss-kept : (kept count : ℕ) → (count < kept) ⊎ (kept ≡ 0) → (kept ≤ 0) ⊎ (count < kept)
+loss-kept kept count (inl short) = inr short
+loss-kept kept count (inr none) = inl (omega (arith, none))
+
+-- no place is counted of it
+loss-none : (kept count : ℕ) → (count < kept) ⊎ (kept ≡ 0) → kept ≤ count → kept ≡ 0
+loss-none kept count (inl short) within = absurd (omega (arith, short, within))
+loss-none kept count (inr none) within = none
+
+after-loss : (s : Series) (m : Moment) (file : List (List ℕ)) (number : ℕ → ℕ) (comes : Numbers)
+    → HasNumbers s file number → (length file < m.kept) ⊎ (m.kept ≡ 0) → Stands s (after_loss m file comes) number
+after-loss s m file number comes has lost =
+    let first : first_of m.kept (length file) ≡ 0 = loss-first m.kept (length file) lost in
     record {
-      once = λ i j low. absurd (omega (arith, low));
-      known = λ i low. absurd (omega (arith, low));
-      kept = le-refl 0;
-      synced = le-refl 0;
-      cursor = le-refl 0;
-      end = le-refl 0;
-      left = λ i n low. absurd (omega (arith, low));
-      asked = λ i n low. absurd (omega (arith, low));
-      number = le-refl number;
+      numbers = has;
+      kept = loss-kept m.kept (length file) lost;
+      synced = omega arith;
+      end = λ i at. tail-end m.kept (length file) i at;
+      left = λ i below may. tail-left m.kept (length file) i (omega (arith, first)) below;
+      asked = λ within i below may.
+          let none : m.kept ≡ 0 = loss-none m.kept (length file) lost within in absurd (omega (arith, none, below));
+      free = inr (λ within i at.
+          let none : m.kept ≡ 0 = loss-none m.kept (length file) lost within in omega (arith, none));
       handed = λ n among. absurd among;
       counted = λ n among. absurd among;
     }
 
-after-step : (s : Series) (m m' : Moment) → AreDistinct s → Stands s m → Step s m m' → Stands s m'
-after-step s m _ distinct h (Hands n w file low offers keeps) =
-    after-record s m n w file distinct (record { stands = h; low = low; offers = offers; keeps = keeps })
-after-step s m _ distinct h Syncs = after-sync s m h
-after-step s m _ distinct h (Keeps all) = after-keep s m h all
-after-step s m _ distinct h (Stops left low size) = after-stop s m left h low size
+-- ---- numbers go back
 
-stands-always : (s : Series) (m : Moment) → AreDistinct s → Reaches s m → Stands s m
-stands-always s _ distinct (Begins number) = after-first s number
-stands-always s m distinct (Goes {m = before} reaches step) =
-    after-step s before m distinct (stands-always s before distinct reaches) step
+return-free : (s : Series) (m : Moment) → AreDistinct s ⊎ (m.kept ≡ 0)
+    → AreDistinct s
+    ⊎ (m.kept ≤ length m.file → (i : ℕ) → IsLeft (all_from 0 (length m.file)) i → m.kept ≤ i)
+return-free s m (inl distinct) = inl distinct
+return-free s m (inr none) = inr (λ within i at. omega (arith, none))
 
-pub holds-once : (s : Series) (m : Moment) → AreDistinct s → Reaches s m → HoldsOnce s m
-holds-once s m distinct reaches =
-    let h = stands-always s m distinct reaches in
-    record { once = h.once; handed = h.handed; counted = h.counted; known = h.known }
+after-return : (s : Series) (m : Moment) (number : ℕ → ℕ) (comes : Numbers) → Stands s m number
+    → AreDistinct s ⊎ (m.kept ≡ 0) → Stands s (after_return m comes) number
+after-return s m number comes h free =
+    record {
+      numbers = h.numbers;
+      kept = h.kept;
+      synced = h.synced;
+      end = λ i at. all-end 0 (length m.file) i at;
+      left = λ i below may. all-left 0 (length m.file) i (omega arith) below;
+      asked = h.asked;
+      free = return-free s m free;
+      handed = h.handed;
+      counted = h.counted;
+    }
+
+-- ---- a tail is made anew
+
+renewal-free : (s : Series) (m : Moment) (tail : TailValue) → Renews s m tail
+    → AreDistinct s ⊎ (m.kept ≤ length m.file → (i : ℕ) → IsLeft tail i → m.kept ≤ i)
+renewal-free s m tail r =
+    elim r.kept [ inl distinct ↦ inl distinct | inr over ↦ inr (λ within i at. over i at) ]
+
+after-renewal : (s : Series) (m : Moment) (number : ℕ → ℕ) (tail : TailValue) → Stands s m number → Renews s m tail
+    → Stands s (after_renewal m tail) number
+after-renewal s m number tail h r =
+    record {
+      numbers = h.numbers;
+      kept = h.kept;
+      synced = h.synced;
+      end = r.end;
+      left = λ i below may.
+          elim (r.more i (h.left i below may)) [
+            | inl at ↦ at
+            | inr over ↦ absurd (over (number i) (h.numbers.known i below) may)
+          ];
+      asked = h.asked;
+      free = renewal-free s m tail r;
+      handed = h.handed;
+      counted = h.counted;
+    }
+
+-- ---- all of them
+
+after-first : (s : Series) (numbers : Numbers) → Stands s (first_moment numbers) (λ i. i)
+after-first s numbers =
+    record {
+      numbers = record { known = λ i low. absurd (omega (arith, low)); apart = λ i j low. absurd (omega (arith, low)) };
+      kept = inl (le-refl 0);
+      synced = le-refl 0;
+      end = λ i at. tail-end 0 0 i at;
+      left = λ i low. absurd (omega (arith, low));
+      asked = λ within i low. absurd (omega (arith, low));
+      free = inr (λ within i at. omega arith);
+      handed = λ n among. absurd among;
+      counted = λ n among. absurd among;
+    }
+
+-- some numbers of the places
+Holds : Series → Moment → Type 0
+Holds s m = (number : ℕ → ℕ) × Stands s m number
+
+after-step : (s : Series) (m m' : Moment) → (number : ℕ → ℕ) → Stands s m number → Step s m m' → Holds s m'
+unfolding Holds
+after-step s m _ number h (Hands n comes tail file may fewer once short offers) =
+    after-hands s m number n comes tail file h may fewer once short offers
+after-step s m _ number h Syncs = (number, after-sync s m number h)
+after-step s m _ number h (Keeps kept asked all low fewer) =
+    (number, after-keep s m number kept asked h all low fewer)
+after-step s m _ number h (Stops left low size) = (number, after-stop s m number left h low size)
+after-step s m _ number h (Loses file others comes has short) =
+    (others, after-loss s m file others comes has short)
+after-step s m _ number h (Returns comes free) = (number, after-return s m number comes h free)
+after-step s m _ number h (Forgets tail renews) = (number, after-renewal s m number tail h renews)
+
+stands-always : (s : Series) (m : Moment) → Reaches s m → Holds s m
+unfolding Holds
+stands-always s _ (Begins numbers) = ((λ i. i), after-first s numbers)
+stands-always s m (Goes {m = before} reaches step) =
+    let h = stands-always s before reaches in after-step s before m h.0 h.1 step
+
+once-by : (s : Series) (file : List (List ℕ)) (number : ℕ → ℕ) → HasNumbers s file number → AreDistinct s
+    → (i j : ℕ) → i < length file → j < length file → record_at file i ≡ record_at file j → i ≡ j
+once-by s file number h distinct i j ilow jlow same =
+    h.apart i j ilow jlow (distinct (number i) (number j) (sym (h.known i ilow) ∙ same ∙ h.known j jlow))
+
+pub holds-once : (s : Series) (m : Moment) → Reaches s m → HoldsOnce s m
+unfolding Holds
+holds-once s m reaches =
+    let h = stands-always s m reaches in
+    record {
+      number = h.0;
+      numbers = h.1.numbers;
+      once = λ distinct. once-by s m.file h.0 h.1.numbers distinct;
+      handed = h.1.handed;
+      counted = h.1.counted;
+    }

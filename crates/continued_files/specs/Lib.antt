@@ -2,5 +2,9 @@ pub mod Files
 pub mod Lengths
 pub mod Puts
 pub mod MemoryRecords
-pub mod Walks
+pub mod Places
+pub mod Tails
+pub mod Hashes
+pub mod Indexes
+pub mod Known
 pub mod Runs

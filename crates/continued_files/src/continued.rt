@@ -1,18 +1,22 @@
 //! Files in which readers go on one after the other.
 //!
 //! A file that the state doesn't name is all tail. It can't be told whether it was made after the state was written or
-//! is only old; to look through an old one costs a walk and changes nothing. So all files to which records came within
-//! the last hour are named, and a state of an earlier version, which names none, is read.
-ghost use Rattle.std.specs.Prelude.{◌≡◌, OnOk};
+//! is only old; to look through an old one costs one reading and changes nothing. So all files to which records came
+//! within the last hour are named, and a state of an earlier version, which names none, is read.
+ghost use Rattle.std.specs.Prelude.{◌≡◌, ◌≤◌, ℕ, List, OnOk, Some, length};
+ghost use Rattle.continued_files.specs.Indexes.{Indexes};
+ghost use Rattle.continued_files.specs.Known.{ForgetsSome, IsIndexed, KeepsTails, Knows, KnowsOthers, kept_by};
+ghost use Rattle.continued_files.specs.Known.{known_at, length_of, tail_before};
+ghost use Rattle.continued_files.specs.Tails.{Offers, TailValue, all_from};
 ghost use Rattle.sl_io.specs.Counts.{CountsFailure};
-ghost use Rattle.continued_files.specs.Files.{MakesSafe, TellsOthers, TellsSame};
+ghost use Rattle.continued_files.specs.Files.{MakesSafe, Tells, TellsOthers, TellsSame};
 ghost use Rattle.continued_files.specs.Puts.{StandsAfter};
 
 use crate::files::{FolderFault, RecordFiles};
 use crate::lengths::FileLength;
-use crate::turns::place_after;
-use crate::walk::Walk;
+use crate::tail::Tail;
 use std::alloc::{AllocError, Global};
+use std::collections::BTreeMap;
 
 /// For how many syncs a file is remembered to which nothing was handed.
 const REMEMBERED: u64 = 3_600;
@@ -26,16 +30,16 @@ pub enum Unnamed {
     Tail,
 }
 
-/// How far the walk in a file is, and how many records it has.
-#[derive(Clone, Copy, Drop)]
-struct Progress {
-    walk: Walk,
+/// A file to which a record was handed: what is left of its tail, how many records it has, and how many syncs there had
+/// been when a record of it was handed last.
+#[derive(Drop)]
+pub struct Known {
+    tail: Tail,
     count: u64,
-    /// How many syncs there had been when a record of it was handed last.
     syncs: u64,
 }
 
-impl Progress {
+impl Known {
     /// Hands a record to the file, which has so many: it is added at the end, or passed over if it stands in what an
     /// earlier reader left there.
     fn hand<F: RecordFiles>(
@@ -47,21 +51,18 @@ impl Progress {
         syncs: u64,
     ) -> Result<(), FolderFault>
         ensures stands { OnOk result (StandsAfter name.now bytes.now (F.records files.old) (F.records files.new)) }
+        ensures offers { OnOk result ((rs : List (List ℕ)) → Tells (F.records files.old) name.now rs
+            → count ≡ length rs → Indexes self.old.tail rs → (rs' : List (List ℕ))
+            × Tells (F.records files.new) name.now rs' × (self.new.count ≤ length rs') × Indexes self.new.tail rs'
+            × Offers self.old.tail.tail rs bytes.now self.new.tail.tail rs') }
         ensures others { TellsOthers name.now (F.records files.old) (F.records files.new) }
         ensures safe { TellsSame (F.safe files.old) (F.safe files.new) }
     {
-        let is_added = self.walk.offer(files, name, bytes)?;
+        let is_added = self.tail.offer(files, name, bytes)?;
         self.count = count.saturating_add(u64::from(is_added));
         self.syncs = syncs;
         Ok(())
     }
-}
-
-/// A file to which a record was handed.
-#[derive(Drop)]
-struct Known {
-    name: String,
-    progress: Progress,
 }
 
 /// Files of records to which each record is added once, though it is handed again to a reader that goes on after one
@@ -73,16 +74,18 @@ pub struct ContinuedFiles<F: RecordFiles> {
     /// What the state says of files, when the reader begins.
     named: Vec<FileLength>,
     unnamed: Unnamed,
-    /// In the order of their names.
-    all: Vec<Known>,
-    /// The place of the file to which a record was handed last.
-    last: usize,
+    /// What is known of the files to which records were handed, by their names.
+    all: BTreeMap<String, Known>,
     syncs: u64,
+    /// Whether a file had fewer records than the state counts, since that was asked last.
+    is_short: bool,
     failures: u64,
 }
 
 /// The length that is named of a file.
-fn named_count(named: &[FileLength], name: &str) -> Option<u64> {
+fn named_count(named: &[FileLength], name: &str) -> Option<u64>
+    ensures { result ≡ length_of named.now name.now }
+{
     for length in named {
         if length.name() == name.as_bytes() {
             return Some(length.count());
@@ -114,9 +117,9 @@ impl<F: RecordFiles> ContinuedFiles<F> {
             files,
             named,
             unnamed,
-            all: Vec::new(alloc),
-            last: 0,
+            all: BTreeMap::new(alloc),
             syncs: 0,
+            is_short: false,
             failures: 0,
         }
     }
@@ -143,7 +146,9 @@ impl<F: RecordFiles> ContinuedFiles<F> {
     }
 
     /// How many records of a file with so many don't come again, by the state.
-    fn kept_of(&self, name: &str, count: u64) -> u64 {
+    fn kept_of(&self, name: &str, count: u64) -> u64
+        ensures { result ≡ kept_by (length_of self.now.named.items name.now) self.now.unnamed count }
+    {
         match (named_count(&self.named, name), self.unnamed) {
             (Some(kept), _) => kept,
             (None, Unnamed::Kept) => count,
@@ -151,78 +156,49 @@ impl<F: RecordFiles> ContinuedFiles<F> {
         }
     }
 
-    /// How far a file is that has so many records, to which none was handed while it had as many. If it was known, it
-    /// was replaced, and nothing is known of what it has now.
-    fn progress_of(&self, is_known: bool, name: &str, count: u64) -> Progress {
-        let kept = if is_known {
-            count
-        } else {
-            self.kept_of(name, count)
-        };
-        Progress {
-            walk: Walk::new(kept, count),
-            count,
-            syncs: self.syncs,
-        }
-    }
-
-    /// Whether the file of that name stands at a place.
-    fn is_at(&self, place: usize, name: &str) -> bool {
-        match self.all.get(place) {
-            Some(known) => known.name.as_str() == name,
-            None => false,
-        }
-    }
-
-    /// The place of a file to which a record was handed, or the place where it belongs. The one after that of the last
-    /// record is looked at first, since records of several files come mostly by turns, and then that one.
-    fn place_of(&self, name: &str) -> Result<usize, usize> {
-        let next = place_after(self.last, self.all.len());
-        if self.is_at(next, name) {
-            return Ok(next);
-        }
-        if self.is_at(self.last, name) {
-            return Ok(self.last);
-        }
-        self.all
-            .binary_search_by(|known| known.name.as_str().cmp(name))
-    }
-
-    /// Remembers how far a file is, at its place or where it belongs.
-    fn remember(
-        &mut self,
-        place: Result<usize, usize>,
-        name: &str,
-        progress: Progress,
-    ) -> Result<(), FolderFault>
-        ensures same { self.new.files ≡ self.old.files }
-        ensures failures { self.new.failures ≡ self.old.failures }
-    {
-        match place {
-            Ok(at) => {
-                if let Some(known) = self.all.get_mut(at) {
-                    known.progress = progress;
-                }
-                Ok(())
-            }
-            Err(at) => self.remember_new(at, name, progress),
-        }
-    }
-
-    /// Remembers how far a file is to which no record was handed before.
-    fn remember_new(&mut self, at: usize, name: &str, progress: Progress) -> Result<(), FolderFault>
-        ensures same { self.new.files ≡ self.old.files }
-        ensures failures { self.new.failures ≡ self.old.failures }
+    /// Remembers what is known of a file.
+    fn remember(&mut self, name: &str, known: Known) -> Result<(), FolderFault>
+        ensures known { OnOk result (known_at self.new.all name.now ≡ Some known) }
+        ensures others { OnOk result (KnowsOthers name.now self.old.all self.new.all) }
+        ensures same { (self.new.files ≡ self.old.files) × (self.new.named ≡ self.old.named)
+            × (self.new.unnamed ≡ self.old.unnamed) × (self.new.failures ≡ self.old.failures) }
     {
         let Ok(name) = String::from_str(self.alloc, name) else {
             return Err(FolderFault);
         };
-        let at = at.min(self.all.len());
-        self.last = at;
-        match self.all.insert(at, Known { name, progress }) {
-            Ok(()) => Ok(()),
+        match self.all.insert(name, known) {
+            Ok(_) => Ok(()),
             Err(_) => Err(FolderFault),
         }
+    }
+
+    /// Makes the tail of a file that has so many records known, where it isn't yet, or was replaced.
+    fn know(&mut self, name: &str, count: u64) -> Result<(), FolderFault>
+        ensures known { OnOk result ((rs : List (List ℕ)) → Tells (F.records self.old.files) name.now rs
+            → count ≡ length rs → IsIndexed (known_at self.old.all name.now) rs
+            → Knows (known_at self.new.all name.now) rs (tail_before (known_at self.old.all name.now)
+            (kept_by (length_of self.old.named.items name.now) self.old.unnamed count) count)) }
+        ensures others { OnOk result (KnowsOthers name.now self.old.all self.new.all) }
+        ensures same { TellsSame (F.records self.old.files) (F.records self.new.files) }
+        ensures safe { TellsSame (F.safe self.old.files) (F.safe self.new.files) }
+        ensures rest { (self.new.named ≡ self.old.named) × (self.new.unnamed ≡ self.old.unnamed)
+            × (self.new.failures ≡ self.old.failures) }
+    {
+        let kept = match self.all.get(name) {
+            Some(known) => {
+                if known.count <= count {
+                    return Ok(());
+                }
+                known.count
+            }
+            None => self.kept_of(name, count),
+        };
+        if count < kept {
+            self.is_short = true;
+        }
+        let tail = Tail::new(self.alloc, &mut self.files, name, kept, count)?;
+        let syncs = self.syncs;
+        self.remember(name, Known { tail, count, syncs })
     }
 
     /// Hands a record to a file: it is added at the end, or passed over if it stands in what an earlier reader left
@@ -230,29 +206,53 @@ impl<F: RecordFiles> ContinuedFiles<F> {
     pub fn hand(&mut self, name: &str, bytes: &[u8; 512]) -> Result<(), FolderFault>
         ensures stands { OnOk result
             (StandsAfter name.now bytes.now (F.records self.old.files) (F.records self.new.files)) }
+        ensures offers { OnOk result ((rs : List (List ℕ)) → Tells (F.records self.old.files) name.now rs
+            → IsIndexed (known_at self.old.all name.now) rs → (rs' : List (List ℕ)) × (t : TailValue)
+            × Tells (F.records self.new.files) name.now rs' × Knows (known_at self.new.all name.now) rs' t
+            × Offers (tail_before (known_at self.old.all name.now)
+            (kept_by (length_of self.old.named.items name.now) self.old.unnamed (length rs)) (length rs))
+            rs bytes.now t rs') }
+        ensures other_tails { OnOk result (KnowsOthers name.now self.old.all self.new.all) }
+        ensures rest { (self.new.named ≡ self.old.named) × (self.new.unnamed ≡ self.old.unnamed) }
         ensures others { TellsOthers name.now (F.records self.old.files) (F.records self.new.files) }
         ensures safe { TellsSame (F.safe self.old.files) (F.safe self.new.files) }
         ensures failures { self.new.failures ≡ self.old.failures }
     {
         let count = self.files.count(name)?;
+        self.know(name, count)?;
         let syncs = self.syncs;
-        let place = self.place_of(name);
-        if let Ok(at) = place {
-            self.last = at;
-            if let Some(known) = self.all.get_mut(at) {
-                if known.progress.count <= count {
-                    return known
-                        .progress
-                        .hand(&mut self.files, name, bytes, count, syncs);
-                }
-            }
+        match self.all.get_mut(name) {
+            Some(known) => known.hand(&mut self.files, name, bytes, count, syncs),
+            None => Err(FolderFault),
         }
-        let mut progress = self.progress_of(place.is_ok(), name, count);
-        progress.hand(&mut self.files, name, bytes, count, syncs)?;
-        self.remember(place, name, progress)
     }
 
-    /// The same, where a call that fails is counted.
+    /// The numbers of a server went back, so that any record may be handed anew: from now on all of each file is tail.
+    /// Of files to which nothing is handed after it no length is told.
+    pub fn return_to_begin(&mut self)
+        ensures tails { (name : List ℕ) (count : ℕ) → tail_before (known_at self.new.all name)
+            (kept_by (length_of self.new.named.items name) self.new.unnamed count) count ≡ all_from 0 count }
+        ensures same { self.new.files ≡ self.old.files }
+        ensures failures { self.new.failures ≡ self.old.failures }
+    {
+        self.all.clear();
+        self.named.clear();
+        self.unnamed = Unnamed::Tail;
+    }
+
+    /// Whether a file had fewer records than the state counts, once. Until another state is kept the file has to stay
+    /// shorter than that: else a reader that goes on takes its first records for counted ones.
+    pub fn take_short(&mut self) -> bool
+        ensures same { (self.new.files ≡ self.old.files) × (self.new.all ≡ self.old.all)
+            × (self.new.named ≡ self.old.named) × (self.new.unnamed ≡ self.old.unnamed) }
+        ensures failures { self.new.failures ≡ self.old.failures }
+    {
+        let is_short = self.is_short;
+        self.is_short = false;
+        is_short
+    }
+
+    /// Hands a record to a file, where a call that fails is counted.
     pub fn hand_counted(&mut self, name: &str, bytes: &[u8; 512]) -> Result<(), FolderFault>
         ensures stands { OnOk result
             (StandsAfter name.now bytes.now (F.records self.old.files) (F.records self.new.files)) }
@@ -267,29 +267,57 @@ impl<F: RecordFiles> ContinuedFiles<F> {
         handed
     }
 
-    /// Files to which nothing was handed for long are forgotten.
+    /// The name of a file to which nothing was handed for long, if there is one.
+    fn idle_name(&self) -> Option<String> {
+        let syncs = self.syncs;
+        for (name, known) in &self.all {
+            if known.syncs.saturating_add(REMEMBERED) <= syncs {
+                return String::from_str(self.alloc, name.as_str()).ok();
+            }
+        }
+        None
+    }
+
+    /// Nothing is known any more of the file of a name.
+    fn forget_one(&mut self, name: &str)
+        ensures known { ForgetsSome self.old.all self.new.all }
+        ensures rest { (self.new.files ≡ self.old.files) × (self.new.named ≡ self.old.named)
+            × (self.new.unnamed ≡ self.old.unnamed) × (self.new.failures ≡ self.old.failures) }
+    {
+        self.all.remove(name);
+    }
+
+    /// A file to which nothing was handed for long is forgotten, if that loses nothing: all of a file that is not known
+    /// is tail. So is what the state said.
     fn forget(&mut self)
+        ensures left { KeepsTails self.old.all (λ name count. kept_by (length_of self.old.named.items name)
+            self.old.unnamed count) self.new.all (λ name count. kept_by (length_of self.new.named.items name)
+            self.new.unnamed count) }
         ensures same { self.new.files ≡ self.old.files }
         ensures failures { self.new.failures ≡ self.old.failures }
     {
-        let syncs = self.syncs;
-        self.all.retain(|known| syncs < known.progress.syncs.saturating_add(REMEMBERED));
-        if syncs >= REMEMBERED {
-            self.named.clear();
+        if let Unnamed::Tail = self.unnamed {
+            if self.syncs >= REMEMBERED {
+                self.named.clear();
+                if let Some(name) = self.idle_name() {
+                    self.forget_one(&name);
+                }
+            }
         }
     }
 
     /// Makes all records last that were handed so far.
     pub fn sync(&mut self) -> Result<(), FolderFault>
+        ensures left { OnOk result (KeepsTails self.old.all (λ name count. kept_by (length_of self.old.named.items name)
+            self.old.unnamed count) self.new.all (λ name count. kept_by (length_of self.new.named.items name)
+            self.new.unnamed count)) }
         ensures same { TellsSame (F.records self.old.files) (F.records self.new.files) }
         ensures safe { OnOk result (MakesSafe (F.records self.new.files) (F.safe self.new.files)) }
         ensures failures { self.new.failures ≡ self.old.failures }
     {
         self.files.sync()?;
         self.syncs = self.syncs.saturating_add(1);
-        if self.syncs % 64 == 0 {
-            self.forget();
-        }
+        self.forget();
         Ok(())
     }
 
@@ -309,9 +337,9 @@ impl<F: RecordFiles> ContinuedFiles<F> {
     /// How many records of each file don't come again.
     fn lengths(&self) -> Result<Vec<FileLength>, AllocError> {
         let mut lengths = Vec::new(self.alloc);
-        for known in &self.all {
-            let count = known.progress.walk.kept_length(known.progress.count);
-            lengths.push(FileLength::new(self.alloc, known.name.as_bytes(), count)?)?;
+        for (name, known) in &self.all {
+            let count = known.tail.kept_length(known.count);
+            lengths.push(FileLength::new(self.alloc, name.as_bytes(), count)?)?;
         }
         self.put_named(&mut lengths)?;
         Ok(lengths)
@@ -323,7 +351,7 @@ impl<F: RecordFiles> ContinuedFiles<F> {
             let Ok(name) = text_of(length.name()) else {
                 continue;
             };
-            if self.place_of(name).is_err() {
+            if !self.all.contains_key(name) {
                 lengths.push(FileLength::new(self.alloc, length.name(), length.count())?)?;
             }
         }

@@ -6,7 +6,7 @@
 ghost use Rattle.std.specs.Prelude.{◌≡◌, ◌<◌, ℕ, List, length, IfOk, OnErr, OnOk};
 ghost use Rattle.std.specs.declared.option.Option.{Option};
 ghost use Rattle.continued_files.specs.Files.{Tells, TellsSame, AddsTo, MakesSafe};
-ghost use Rattle.continued_files.specs.Walks.{record_at};
+ghost use Rattle.continued_files.specs.Places.{record_at};
 
 /// A folder can't be made, or a file can't be opened or takes no more.
 #[derive(Clone, Copy, Drop)]

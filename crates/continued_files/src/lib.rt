@@ -4,16 +4,17 @@
 
 mod continued;
 mod files;
+mod hashes;
 mod law;
 mod lengths;
 mod memory_files;
+mod tail;
 mod turns;
-mod walk;
 
-pub use continued::{ContinuedFiles, Unnamed};
+pub use continued::{ContinuedFiles, Known, Unnamed};
 pub use files::{FolderFault, RecordFiles};
 pub use law::each_record_stands_once;
 pub use lengths::FileLength;
 pub use memory_files::{MemoryFiles, NamedRecord};
+pub use tail::{Entry, Tail};
 pub use turns::place_after;
-pub use walk::Walk;

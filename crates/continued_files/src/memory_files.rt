@@ -3,7 +3,7 @@ ghost use Rattle.std.specs.Prelude.{◌≡◌, ◌<◌, ◌≤◌, ◌++◌, ◌
 ghost use Rattle.std.specs.Prelude.{OnErr, OnOk, Some};
 ghost use Rattle.continued_files.specs.Files.{Tells, TellsSame, AddsTo, MakesSafe};
 ghost use Rattle.continued_files.specs.MemoryRecords.{named, records_of};
-ghost use Rattle.continued_files.specs.Walks.{record_at};
+ghost use Rattle.continued_files.specs.Places.{record_at};
 
 use crate::files::{FolderFault, RecordFiles};
 use std::alloc::{AllocError, Global};

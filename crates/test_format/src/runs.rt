@@ -261,7 +261,7 @@ type Case = (
     u64,
 );
 
-static CASES: [Case; 8] = [
+static CASES: [Case; 12] = [
     // The tail comes again as it stands, and then more.
     (&[0, 1, 2], 1, &[1, 2, 3], &[0, 1, 2, 3], 4),
     // It comes in part: the rest may still come.
@@ -270,11 +270,17 @@ static CASES: [Case; 8] = [
     (&[0, 1, 3], 1, &[3, 4], &[0, 1, 3, 4], 1),
     (&[0, 1, 3], 1, &[1, 2, 3, 4], &[0, 1, 3, 2, 4], 5),
     // Records of several stations come in another order.
-    (&[0, 1, 2, 3], 0, &[1, 3, 0, 2, 4], &[0, 1, 2, 3, 4], 1),
+    (&[0, 1, 2, 3], 0, &[1, 3, 0, 2, 4], &[0, 1, 2, 3, 4], 5),
+    (&[0, 1, 2, 3], 1, &[4, 3, 2], &[0, 1, 2, 3, 4], 1),
+    // A hole is filled, and what stands behind it comes again.
+    (&[0, 1, 5, 6, 7], 1, &[1, 2, 3, 4, 5, 6, 7, 8], &[0, 1, 5, 6, 7, 2, 3, 4, 8], 9),
+    // Two places have the same record, which comes twice, and then once more.
+    (&[0, 1, 1], 1, &[1, 1, 1], &[0, 1, 1, 1], 4),
     // What was counted is added again, if it is handed.
     (&[0, 1], 2, &[0, 2], &[0, 1, 0, 2], 4),
-    // The state counts more than stands there.
-    (&[0], 5, &[1], &[0, 1], 2),
+    // The state counts more than stands there: all of it is tail.
+    (&[0], 5, &[1], &[0, 1], 0),
+    (&[0], 5, &[1, 0], &[0, 1], 2),
     // Nothing was counted.
     (&[0, 1], 0, &[0, 1, 2], &[0, 1, 2], 3),
 ];

@@ -1,6 +1,6 @@
 use Rattle.std.proofs.Common.{◌≡◌, ◌+◌, drop, length, map}
 use Rattle.continued_files.specs.MemoryRecords.{named, records_of}
-use Rattle.continued_files.specs.Walks.{record_at}
+use Rattle.continued_files.specs.Places.{record_at}
 use Rattle.continued_files.proofs.memory_files.copy_at.Given as goal
 
 -- The record is that at the place that is left, of those that are left.
