@@ -130,7 +130,7 @@ NO_STATES = [
     "\n", "GE APE 00000A 17091648000100", "GE APE 00000a -\n", "GE APE A -\n", "GE APE 00000A\n", "GE APE 00000A - \n",
     "GE  APE 00000A -\n",
     "ge APE 00000A -\n", "GEO APE 00000A -\n", "GE STATIO 00000A -\n", "GE APE 00000A +1\n", "GE APE 00000A 9223372036854775808\n",
-    "GE APE 00000A -\n\n", "GE APE 00000A -\nGE WLF 000001 -\nGE APE 00000B -\n", "GE APE 00000A -\n#\n", "#\n- 01\n", "#\n- -1\n",
+    "GE APE 00000A -\n\n", "GE APE 00000A -\nGE WLF 000001 -\nGE APE 00000b -\n", "GE APE 00000A -\n#\n", "#\n- 01\n", "#\n- -1\n",
     "#\n- +1\n",
     "#\n-\n", "#\na b 1\n", "#- 1\n", "#\n- 1", "#\n- 18446744073709551616\n", "#\n- 1\nGE APE 00000A -\n",
 ]

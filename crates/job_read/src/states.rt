@@ -7,12 +7,13 @@ use crate::clock::milliseconds;
 use crate::inlet::Inlet;
 use crate::keep_time::{EVERY, KeepTime, keep_time};
 use crate::patience::Patience;
+use crate::torn::tell_doubled;
 use continued_files::FileLength;
 use disk_files::{FileFailure, ONE_FILE};
 use incidents::{Failure, Incident, Site, StateRefusal};
 use job_base::{place_of, replace};
 use reader_run::{KeepFault, Keeper, ListingFault, RecordSink};
-use reader_state::{KeptState, read_state, write_state};
+use reader_state::{KeptState, StateFault, read_doubled, read_state, write_state};
 use sl_io::{Outer, ReadFault, read_all};
 use slreader::{LastPacket, Tally, Want};
 use std::alloc::{AllocError, Global};
@@ -198,10 +199,19 @@ fn others_at(rt: &HostRuntime, place: &str) -> io::Result<KeptState> {
         )),
         Err(reason) => return Err(reason),
     };
-    match read_state(rt.alloc(), text.as_slice()) {
-        Ok(state) => Ok(state),
-        Err(reader_state::StateFault::OutOfMemory) => Err(io::Error::from(ErrorKind::OutOfMemory)),
-        Err(reader_state::StateFault::Invalid) => Err(no_state()),
+    match said_in(rt.alloc(), text.as_slice()) {
+        Ok((state, _)) => Ok(state),
+        Err(StateFault::OutOfMemory) => Err(io::Error::from(ErrorKind::OutOfMemory)),
+        Err(StateFault::Invalid) => Err(no_state()),
+    }
+}
+
+/// What the text of a state says, and whether it has several lines of a station, as an earlier version wrote them.
+fn said_in(alloc: Global, text: &[u8]) -> Result<(KeptState, bool), StateFault> {
+    match read_state(alloc, text) {
+        Ok(state) => Ok((state, false)),
+        Err(StateFault::OutOfMemory) => Err(StateFault::OutOfMemory),
+        Err(StateFault::Invalid) => Ok((read_doubled(alloc, text)?, true)),
     }
 }
 
@@ -219,7 +229,7 @@ fn unopened<'a>(path: &'a str, reason: io::Error) -> Incident<'a> {
 /// What a state says; nothing if it is not there.
 fn state_at<'a>(rt: &HostRuntime, place: &str, path: &'a str) -> Result<KeptState, Incident<'a>> {
     match fs::open(rt, place) {
-        Ok(file) => state_in(rt.alloc(), file, path),
+        Ok(file) => state_in(rt, file, path),
         Err(reason) if reason.kind() == ErrorKind::NotFound => Ok(KeptState::new(rt.alloc())),
         Err(reason) => Err(unopened(path, reason)),
     }
@@ -227,22 +237,25 @@ fn state_at<'a>(rt: &HostRuntime, place: &str, path: &'a str) -> Result<KeptStat
 
 /// What a state says whose file is open.
 fn state_in<'a, F: io::Read + Drop>(
-    alloc: Global,
+    rt: &HostRuntime,
     file: F,
     path: &'a str,
 ) -> Result<KeptState, Incident<'a>> {
     let mut file = Outer::new(file);
-    let text = match read_all(alloc, &mut file) {
+    let text = match read_all(rt.alloc(), &mut file) {
         Ok(text) => text,
         Err(ReadFault::OutOfMemory) => return Err(Failure::OutOfMemory.in_file(path)),
         Err(ReadFault::Read) => return Err(Failure::State(StateRefusal::Unread).in_file(path)),
     };
-    match read_state(alloc, text.as_slice()) {
-        Ok(state) => Ok(state),
-        Err(reader_state::StateFault::OutOfMemory) => Err(Failure::OutOfMemory.in_file(path)),
-        Err(reader_state::StateFault::Invalid) => {
-            Err(Failure::State(StateRefusal::Invalid).in_file(path))
+    match said_in(rt.alloc(), text.as_slice()) {
+        Ok((state, is_doubled)) => {
+            if is_doubled {
+                tell_doubled(rt, path);
+            }
+            Ok(state)
         }
+        Err(StateFault::OutOfMemory) => Err(Failure::OutOfMemory.in_file(path)),
+        Err(StateFault::Invalid) => Err(Failure::State(StateRefusal::Invalid).in_file(path)),
     }
 }
 

@@ -5,3 +5,4 @@ pub mod ParseLemmas
 pub mod FileLemmas
 pub mod ApartLemmas
 pub mod PartLemmas
+pub mod EachLemmas

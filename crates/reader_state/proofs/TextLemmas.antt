@@ -4,7 +4,8 @@ use Rattle.std.proofs.Common.{length}
 use Rattle.slreader.specs.Lasts.{LastValue}
 use Rattle.slreader.specs.Wants.{is_code}
 use Rattle.protocol.specs.Packet.{digits}
-use Rattle.reader_state.specs.States.{AreLast, IsLast, Lacks, end_text, line_of, others_of, text_of, words_of}
+use Rattle.reader_state.specs.States.{AreLast, IsLast, Lacks, end_text, line_of, one_each, others_of, text_of}
+use Rattle.reader_state.specs.States.{words_of}
 use Rattle.reader_state.proofs.ByteLemmas.{both, code-lacks, digits-lack, end-lacks, lacks-append}
 
 -- no such byte stands in the words of a last packet
@@ -45,11 +46,13 @@ text-append (l ∷ ls) ms =
 
 -- two texts of last packets, one behind the other
 pub two-texts : (cleared lines whole : List ℕ) (one two three before : List LastValue) → cleared ≡ []
-    → lines ≡ cleared ++ text_of one → one ≡ three → two ≡ three
-    → whole ≡ lines ++ text_of (others_of two before) → whole ≡ text_of (three ++ others_of three before)
+    → lines ≡ cleared ++ text_of (one_each one) → one ≡ three → two ≡ three
+    → whole ≡ lines ++ text_of (others_of two before) → whole ≡ text_of (one_each three ++ others_of three before)
 two-texts cleared lines whole one two three before none first a b second =
-    second ∙ ap (λ l. l ++ text_of (others_of two before)) (first ∙ ap (λ l. l ++ text_of one) none ∙ ap text_of a)
-    ∙ ap (λ l. text_of three ++ text_of (others_of l before)) b ∙ sym (text-append three (others_of three before))
+    second ∙ ap (λ l. l ++ text_of (others_of two before))
+    (first ∙ ap (λ l. l ++ text_of (one_each one)) none ∙ ap (λ l. text_of (one_each l)) a)
+    ∙ ap (λ l. text_of (one_each three) ++ text_of (others_of l before)) b
+    ∙ sym (text-append (one_each three) (others_of three before))
 
 -- ---- a line that is cut off
 

@@ -102,9 +102,15 @@ abbrev pub others_of : List LastValue → List LastValue → List LastValue
 others_of lasts [] = []
 others_of lasts (b ∷ bs) = if is_of_another lasts b then b ∷ others_of lasts bs else others_of lasts bs
 
--- what is kept by a reader: the last packets of its wants' stations, and those of other stations that were kept before
+-- one of each station of these: the last of those that are of it
+abbrev pub one_each : List LastValue → List LastValue
+one_each [] = []
+one_each (l ∷ ls) = if is_of_another ls l then l ∷ one_each ls else one_each ls
+
+-- what is kept by a reader: the last packet of each station of its wants, and those of other stations that were kept
+-- before
 abbrev pub lasts_after : TallyValue → List WantValue → List LastValue → List LastValue
-lasts_after t wants before = lasts_of t wants ++ others_of (lasts_of t wants) before
+lasts_after t wants before = one_each (lasts_of t wants) ++ others_of (lasts_of t wants) before
 
 -- No two of them are of one station.
 abbrev pub are_apart : List LastValue → Bool

@@ -9,6 +9,6 @@ mod reading;
 mod state;
 mod writing;
 
-pub use reading::{StateFault, read_state};
+pub use reading::{StateFault, read_doubled, read_state};
 pub use state::KeptState;
 pub use writing::write_state;

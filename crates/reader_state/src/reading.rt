@@ -19,7 +19,7 @@ use crate::writing::put_state;
 use sl_packet::Seq;
 use sl_time::Tick;
 use slreader::{LastPacket, Reached, last_at};
-use std::alloc::Global;
+use std::alloc::{AllocError, Global};
 use text_parts::separators::cut_at;
 
 /// Why a text is no state.
@@ -245,6 +245,53 @@ pub fn read_state(alloc: Global, bytes: &[u8]) -> Result<KeptState, StateFault>
     }
     if text.as_slice() == bytes {
         Ok(state)
+    } else {
+        Err(StateFault::Invalid)
+    }
+}
+
+/// Whether no other last packet of its station has a lower number, and none behind it the same.
+fn is_lowest(lasts: &[LastPacket], place: usize, last: &LastPacket) -> bool {
+    let number = last.reached().number.value();
+    for (at, other) in lasts.iter().enumerate() {
+        let is_same = other.is_of(last.network(), last.station());
+        let other = other.reached().number.value();
+        if is_same && (other < number || other == number && at > place) {
+            return false;
+        }
+    }
+    true
+}
+
+/// Of several last packets of one station the one with the lowest number.
+fn lowest_each(alloc: Global, lasts: &[LastPacket]) -> Result<Vec<LastPacket>, AllocError> {
+    let mut lowest = Vec::new(alloc);
+    for (place, last) in lasts.iter().enumerate() {
+        if is_lowest(lasts, place, last) {
+            let last = LastPacket::new(alloc, last.network(), last.station(), last.reached())?;
+            lowest.push(last)?;
+        }
+    }
+    Ok(lowest)
+}
+
+/// Reads the text of a state as earlier versions wrote it for several wants of one station, with a line for each. The
+/// lowest number of a station counts: records that come again are passed over.
+pub fn read_doubled(alloc: Global, bytes: &[u8]) -> Result<KeptState, StateFault>
+    ensures apart { IfOk result (λ state. are_apart state.lasts ≡ true) }
+{
+    let parts = parts_of(bytes);
+    let lasts = lasts_in(alloc, parts.front)?;
+    let files = files_in(alloc, parts.rest)?;
+    let mut text = Vec::new(alloc);
+    let Ok(()) = put_state(&mut text, &lasts, &files) else {
+        return Err(StateFault::OutOfMemory);
+    };
+    let Ok(lasts) = lowest_each(alloc, &lasts) else {
+        return Err(StateFault::OutOfMemory);
+    };
+    if text.as_slice() == bytes && are_apart(&lasts) {
+        Ok(KeptState { lasts, files })
     } else {
         Err(StateFault::Invalid)
     }

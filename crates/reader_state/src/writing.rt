@@ -1,6 +1,7 @@
 //! The text that a reader keeps.
-ghost use Rattle.std.specs.Prelude.{◌≡◌, ◌++◌, OnOk};
-ghost use Rattle.reader_state.specs.States.{files_part, lasts_after, others_of, state_text, text_of};
+ghost use Rattle.std.specs.Prelude.{◌≡◌, ◌++◌, OnOk, true};
+ghost use Rattle.reader_state.specs.States.{are_apart, files_part, lasts_after, one_each, others_of, state_text};
+ghost use Rattle.reader_state.specs.States.{text_of};
 
 use crate::files::put_files;
 use crate::line::put_line;
@@ -14,6 +15,18 @@ pub(crate) fn put_lines(text: &mut Vec<u8>, lasts: &[LastPacket]) -> Result<(), 
 {
     for last in lasts {
         put_line(text, last)?;
+    }
+    Ok(())
+}
+
+/// Adds a line for each station. Of several packets of one station it is that of the last.
+fn put_each(text: &mut Vec<u8>, lasts: &[LastPacket]) -> Result<(), AllocError>
+    ensures { OnOk result (text.new.items ≡ text.old.items ++ text_of (one_each lasts.now)) }
+{
+    for (place, last) in lasts.iter().enumerate() {
+        if last_at(last.network(), last.station(), &lasts[place + 1..]).is_none() {
+            put_line(text, last)?;
+        }
     }
     Ok(())
 }
@@ -46,7 +59,7 @@ fn put_stations(
 {
     let lasts = tally.lasts(alloc, wants)?;
     text.clear();
-    put_lines(text, &lasts)?;
+    put_each(text, &lasts)?;
     put_others(text, &lasts, before)
 }
 
@@ -74,8 +87,9 @@ pub(crate) fn put_state(
     put_files_part(text, files)
 }
 
-/// The text of what is kept takes the place of another text: the last packet of each want's station, in the order of
-/// the wants, then those of other stations that were kept before, and the lengths of files. Only memory can lack.
+/// The text of what is kept takes the place of another text: the last packet of each station of the wants, in the order
+/// of the wants, then those of other stations that were kept before, and the lengths of files. There is one line for a
+/// station, however many wants are of it, so that the text can be read again. Only memory can lack.
 pub fn write_state(
     alloc: Global,
     text: &mut Vec<u8>,
@@ -84,8 +98,10 @@ pub fn write_state(
     before: &[LastPacket],
     files: &[FileLength],
 ) -> Result<(), AllocError>
-    ensures { OnOk result (text.new.items
+    ensures text { OnOk result (text.new.items
         ≡ state_text (record { lasts = lasts_after tally.now wants.now before.now; files = files.now })) }
+    ensures apart { are_apart before.now ≡ true
+        → are_apart (lasts_after tally.now wants.now before.now) ≡ true }
 {
     put_stations(alloc, text, tally, wants, before)?;
     put_files_part(text, files)

@@ -9,6 +9,6 @@ on-ok P Q (Err e) h f = tt
 
 pub returns : goal.returns
 returns c = on-ok _ _ c.put_others.result c.put_others.ensures (λ e.
-    two-texts _ _ _ _ _ _ _ c.clear.ensures.items c.in_ok-put_lines.ensures
+    two-texts _ _ _ _ _ _ _ c.clear.ensures.items c.in_ok-put_each.ensures
     (c.deref.ensures.value ∙ c.in_ok-lasts.ensures)
     (c.deref-2.ensures.value ∙ c.in_ok-lasts.ensures) e)
