@@ -1,7 +1,9 @@
 //! One file to which records are put.
-ghost use Rattle.std.specs.Prelude.{◌≡◌, OnOk, codes};
+ghost use Rattle.std.specs.Prelude.{◌≡◌, ℕ, List, OnOk, codes};
 ghost use Rattle.continued_files.specs.Files.{MakesSafe, TellsSame};
+ghost use Rattle.continued_files.specs.Known.{kept_by, known_at, length_of, tail_before};
 ghost use Rattle.continued_files.specs.Puts.{StandsAfter};
+ghost use Rattle.continued_files.specs.Tails.{all_from};
 
 use crate::disk_files::{DiskFiles, FileFailure};
 use continued_files::{ContinuedFiles, FileLength, FolderFault, RecordFiles};
@@ -45,6 +47,23 @@ impl<F: RecordFiles> ContinuedOutput<F> {
         ensures safe { TellsSame (F.safe self.old.files.files) (F.safe self.new.files.files) }
     {
         self.files.hand(ONE_FILE, bytes)
+    }
+
+    /// The numbers of a server went back: from now on all of the file is tail.
+    pub fn return_to_begin(&mut self)
+        ensures tails { (name : List ℕ) (count : ℕ) → tail_before (known_at self.new.files.all name)
+            (kept_by (length_of self.new.files.named.items name) self.new.files.unnamed count) count
+            ≡ all_from 0 count }
+        ensures same { self.new.files.files ≡ self.old.files.files }
+    {
+        self.files.return_to_begin();
+    }
+
+    /// Whether the file had fewer records than the state counts, once: then a state is to be kept at once.
+    pub fn take_short(&mut self) -> bool
+        ensures { self.new.files.files ≡ self.old.files.files }
+    {
+        self.files.take_short()
     }
 }
 

@@ -4,6 +4,7 @@ pub mod Hearing
 pub mod KeepTimes
 pub mod Notices
 pub mod Places
+pub mod Returns
 pub mod Together
 pub mod Unplaced
 pub mod Waiting

@@ -3,6 +3,7 @@ ghost use Rattle.std.specs.Prelude.{◌≡◌, None};
 
 use crate::clock::milliseconds;
 use crate::notices::{ErrorTeller, Notice, Teller};
+use crate::returns::LastNumbers;
 use crate::torn::tell_torn;
 use crate::unplaced::UnplacedCount;
 use continued_files::{ContinuedFiles, FileLength, FolderFault, RecordFiles, Unnamed};
@@ -14,7 +15,7 @@ use record_archive::{Archive, ArchiveFault, StationCodes, StationLocks, TopFault
 use sl_io::WriteFault;
 use slreader::{GivenPacket, Want};
 use std::alloc::{AllocError, Global};
-use std::cell::RefCell;
+use std::cell::{Cell, RefCell};
 use std::fs::File;
 use std::io::{self, Write};
 use std::num::NonZeroUsize;
@@ -33,6 +34,9 @@ const OTHERS: u64 = 64;
 pub struct ToldArchive<'r> {
     rt: &'r HostRuntime,
     archive: RefCell<DiskArchive<'r>>,
+    numbers: LastNumbers,
+    /// Set if a state is to be kept at once.
+    is_urgent: &'r Cell<bool>,
     _locks: StationLocks,
     teller: ErrorTeller<'r>,
     count: UnplacedCount,
@@ -83,6 +87,8 @@ pub fn archive_at<'r, 'a: 'r>(
     top: &'a str,
     named: Option<Vec<FileLength>>,
     wants: &[Want<'_>],
+    numbers: LastNumbers,
+    is_urgent: &'r Cell<bool>,
 ) -> Result<ToldArchive<'r>, Incident<'a>> {
     let Ok(stations) = stations_of(rt.alloc(), wants) else {
         return Err(Incident::from(Failure::OutOfMemory));
@@ -93,6 +99,8 @@ pub fn archive_at<'r, 'a: 'r>(
     Ok(ToldArchive {
         rt,
         archive: RefCell::new(Archive::new(rt.alloc(), files, stations)),
+        numbers,
+        is_urgent,
         _locks: locks,
         teller: ErrorTeller::new(rt),
         count: UnplacedCount::new(),
@@ -177,12 +185,22 @@ impl ToldArchive<'_> {
 }
 
 /// Puts a record into an archive, and answers as well how many of its records have no place, and which file was torn.
+/// If the numbers of servers went back, all of each file is tail from then on. If a file was found to be shorter than
+/// the state counts, a state is to be kept at once.
 #[tactic(auto, unfolding(slreader::specs::Tallies::packet_facts))]
 fn put_to(
     archive: &mut DiskArchive<'_>,
     packet: &GivenPacket<'_>,
+    is_return: bool,
+    is_urgent: &Cell<bool>,
 ) -> (Result<(), ArchiveFault>, u64, Option<String>) {
+    if is_return {
+        archive.return_to_begin();
+    }
     let put = archive.put(packet.record(), packet.header());
+    if archive.take_short() {
+        is_urgent.set(true);
+    }
     let torn = archive.take_torn();
     (put, archive.unplaced(), torn)
 }
@@ -201,7 +219,9 @@ impl RecordSink for ToldArchive<'_> {
     }
 
     fn put(&mut self, packet: &GivenPacket<'_>) -> Result<(), SinkFault> {
-        let (put, unplaced, torn) = put_to(self.archive.get_mut(), packet);
+        let is_return = self.numbers.note(packet);
+        let archive = self.archive.get_mut();
+        let (put, unplaced, torn) = put_to(archive, packet, is_return, self.is_urgent);
         self.tell(unplaced, torn);
         match put {
             Ok(()) => Ok(()),
@@ -223,6 +243,9 @@ impl RecordSink for ToldArchive<'_> {
 pub struct ToldOutput<'r> {
     rt: &'r HostRuntime,
     output: RefCell<ContinuedOutput<DiskFiles<'r>>>,
+    numbers: LastNumbers,
+    /// Set if a state is to be kept at once.
+    is_urgent: &'r Cell<bool>,
     failures: u64,
 }
 
@@ -232,11 +255,15 @@ pub fn output_at<'r, 'a: 'r>(
     rt: &'r HostRuntime,
     path: &'a str,
     named: Vec<FileLength>,
+    numbers: LastNumbers,
+    is_urgent: &'r Cell<bool>,
 ) -> ToldOutput<'r> {
     let files = files_at(rt, FilePlace::At(path), 0, Some(named), Unnamed::Kept);
     ToldOutput {
         rt,
         output: RefCell::new(ContinuedOutput::new(files)),
+        numbers,
+        is_urgent,
         failures: 0,
     }
 }
@@ -301,12 +328,20 @@ impl Write for WholeFile {
     }
 }
 
-/// Puts a record into a file, and answers as well whether that was torn.
+/// Puts a record into a file, as into an archive, and answers as well whether that was torn.
 fn put_one(
     output: &mut ContinuedOutput<DiskFiles<'_>>,
     packet: &GivenPacket<'_>,
+    is_return: bool,
+    is_urgent: &Cell<bool>,
 ) -> (Result<(), FolderFault>, Option<String>) {
+    if is_return {
+        output.return_to_begin();
+    }
     let put = output.put(packet.record());
+    if output.take_short() {
+        is_urgent.set(true);
+    }
     let torn = output.take_torn();
     (put, torn)
 }
@@ -325,7 +360,8 @@ impl RecordSink for ToldOutput<'_> {
     }
 
     fn put(&mut self, packet: &GivenPacket<'_>) -> Result<(), SinkFault> {
-        let (put, torn) = put_one(self.output.get_mut(), packet);
+        let is_return = self.numbers.note(packet);
+        let (put, torn) = put_one(self.output.get_mut(), packet, is_return, self.is_urgent);
         if let Some(path) = torn {
             tell_torn(self.rt, path.as_str());
         }

@@ -97,7 +97,7 @@ fn spares(network: &[u8], station: &[u8], want: &Want<'_>) -> bool
 }
 
 /// Whether no want asks for some records of a station alone.
-fn are_whole(network: &[u8], station: &[u8], wants: &[Want<'_>]) -> bool
+pub fn are_whole(network: &[u8], station: &[u8], wants: &[Want<'_>]) -> bool
     ensures { result ≡ are_whole network.now station.now wants.now }
 {
     for want in wants {

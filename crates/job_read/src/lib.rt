@@ -17,6 +17,7 @@ mod notices;
 mod patience;
 mod places;
 mod reading;
+mod returns;
 mod sides;
 mod states;
 mod together;

@@ -10,6 +10,7 @@ use crate::following::follow_any;
 use crate::inlet::Inlet;
 use crate::patience::{Patience, pause, silence_between, time_limit};
 use crate::places::Places;
+use crate::returns::LastNumbers;
 use crate::states::{SameFile, StateFile, StateKeeper};
 use crate::wants::{wants_of, wants_text};
 use crate::windows::Moments;
@@ -25,6 +26,7 @@ use record_check::Times;
 use sl_io::{Outer, Sink};
 use slreader::{Tally, Want, Window};
 use std::alloc::{AllocError, Global};
+use std::cell::Cell;
 use std::fs::{File, OpenOptions};
 use std::time::Duration;
 use std::{fs, io, thread};
@@ -59,6 +61,8 @@ pub struct Reading<'a, 'w> {
     pub patience: Patience,
     /// How times are written.
     pub times: Times,
+    /// Whether a state is to be kept at once.
+    pub is_urgent: Cell<bool>,
 }
 
 impl<'a> Reading<'a, '_> {
@@ -139,7 +143,15 @@ fn list_after<'a, O: Sink + Drop, P: RecordSink + Lasting>(
 ) -> Result<(), Incident<'a>> {
     let inlet = Inlet::new();
     let mut servers = ServersInTurn::new(rt, reading, &inlet);
-    let mut keeper = StateKeeper::new(rt, state, &reading.wants, output, &inlet, &reading.patience);
+    let mut keeper = StateKeeper::new(
+        rt,
+        state,
+        &reading.wants,
+        output,
+        &inlet,
+        &reading.patience,
+        &reading.is_urgent,
+    );
     let read = follow_any(rt, reading, tally, &mut servers, out, records, &mut keeper);
     match read {
         Ok(()) => Ok(()),
@@ -255,7 +267,10 @@ fn list_and_go_on<'a>(
     let Ok(lengths) = state.lengths(rt.alloc()) else {
         return Err(Incident::from(Failure::OutOfMemory));
     };
-    let mut records = output_at(rt, path, lengths);
+    let Ok(numbers) = LastNumbers::new(rt.alloc(), &reading.wants, state.before(), false) else {
+        return Err(Incident::from(Failure::OutOfMemory));
+    };
+    let mut records = output_at(rt, path, lengths, numbers, &reading.is_urgent);
     let lines = Outer::new(io::writer(rt));
     match list_on(rt, reading, Some(state), None, lines, &mut records) {
         Ok(()) => Ok(()),
@@ -282,13 +297,30 @@ fn list_and_archive<'a>(
     top: &'a str,
 ) -> Result<(), Incident<'a>> {
     let lengths = lengths_in(rt.alloc(), &state)?;
-    let mut archive = archive_at(rt, top, lengths, &reading.wants)?;
+    let numbers = numbers_in(rt.alloc(), reading, &state)?;
+    let urgent = &reading.is_urgent;
+    let mut archive = archive_at(rt, top, lengths, &reading.wants, numbers, urgent)?;
     let lines = Outer::new(io::writer(rt));
     let read = list_on(rt, reading, state, None, lines, &mut archive);
     let failure = archive.end();
     match read {
         Ok(()) => Ok(()),
         Err(incident) => Err(at_archive(incident, failure, top)),
+    }
+}
+
+/// The numbers of the last packets that a state tells of. Without one, files have no tail, and none are needed.
+fn numbers_in<'a>(
+    alloc: Global,
+    reading: &Reading<'a, '_>,
+    state: &Option<Box<StateFile<'a>>>,
+) -> Result<LastNumbers, Incident<'a>> {
+    let Some(state) = state else {
+        return Ok(LastNumbers::none(alloc));
+    };
+    match LastNumbers::new(alloc, &reading.wants, state.before(), true) {
+        Ok(numbers) => Ok(numbers),
+        Err(_) => Err(Incident::from(Failure::OutOfMemory)),
     }
 }
 
@@ -377,6 +409,7 @@ fn read_between<'a>(
         renewal: Renewal::new(options.retry.is_some()),
         patience,
         times: times_of(options.is_iso),
+        is_urgent: Cell::new(false),
     };
     read_to(rt, &reading, options)
 }

@@ -17,6 +17,7 @@ use reader_state::{KeptState, StateFault, read_doubled, read_state, write_state}
 use sl_io::{Outer, ReadFault, read_all};
 use slreader::{LastPacket, Tally, Want};
 use std::alloc::{AllocError, Global};
+use std::cell::Cell;
 use std::fs::{File, OpenOptions, TryLockError};
 use std::io::ErrorKind;
 use std::{fs, io};
@@ -303,6 +304,8 @@ pub struct StateKeeper<'r, 'a, 'w> {
     inlet: &'r Inlet,
     /// What its server owes.
     patience: &'r Patience,
+    /// Whether a state is to be kept at once.
+    is_urgent: &'r Cell<bool>,
     /// When the state was kept last, in milliseconds.
     kept: u64,
     unkept: Option<Unkept<'a>>,
@@ -318,6 +321,7 @@ impl<'r, 'a, 'w> StateKeeper<'r, 'a, 'w> {
         output: Option<SameFile<'a>>,
         inlet: &'r Inlet,
         patience: &'r Patience,
+        is_urgent: &'r Cell<bool>,
     ) -> StateKeeper<'r, 'a, 'w> {
         StateKeeper {
             rt,
@@ -327,6 +331,7 @@ impl<'r, 'a, 'w> StateKeeper<'r, 'a, 'w> {
             lengths: None,
             inlet,
             patience,
+            is_urgent,
             kept: 0,
             unkept: None,
             failures: 0,
@@ -379,6 +384,9 @@ impl<P: RecordSink + Lasting> Keeper<P> for StateKeeper<'_, '_, '_> {
     fn is_due(&mut self) -> bool {
         if self.file.is_none() {
             return false;
+        }
+        if self.is_urgent.replace(false) {
+            return true;
         }
         let passed = self.now().saturating_sub(self.kept);
         match keep_time(passed, self.patience.is_owed()) {

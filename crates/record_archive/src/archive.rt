@@ -3,10 +3,12 @@
 //! Files of an archive are put on the disk only for a state. Without one the system does it when it likes. With one
 //! each file that was added to has to be: those that are kept open when the state is written, each once, and those that
 //! were let go before, when that was.
-ghost use Rattle.std.specs.Prelude.{◌≡◌, ◌∷◌, [], OnErr, OnOk};
+ghost use Rattle.std.specs.Prelude.{◌≡◌, ◌∷◌, [], ℕ, List, OnErr, OnOk};
 ghost use Rattle.std.specs.Result.{result_ok};
 ghost use Rattle.protocol.specs.Record.{header_of};
 ghost use Rattle.continued_files.specs.Files.{MakesSafe};
+ghost use Rattle.continued_files.specs.Known.{kept_by, known_at, length_of, tail_before};
+ghost use Rattle.continued_files.specs.Tails.{all_from};
 ghost use Rattle.record_archive.specs.Archives.{CountsUnplaced, Fails, HoldsMore};
 
 use crate::folders::Folders;
@@ -91,6 +93,25 @@ impl<F: RecordFiles> Archive<ContinuedFiles<F>> {
         ensures safe { OnOk result (MakesSafe (F.records self.new.folders.files) (F.safe self.new.folders.files)) }
     {
         self.folders.last()
+    }
+
+    /// The numbers of a server went back: from now on all of each file is tail.
+    pub fn return_to_begin(&mut self)
+        ensures tails { (name : List ℕ) (count : ℕ) → tail_before (known_at self.new.folders.all name)
+            (kept_by (length_of self.new.folders.named.items name) self.new.folders.unnamed count) count
+            ≡ all_from 0 count }
+        ensures same { (self.new.folders.files ≡ self.old.folders.files) × (self.new.streams ≡ self.old.streams)
+            × (self.new.unplaced ≡ self.old.unplaced) }
+    {
+        self.folders.return_to_begin();
+    }
+
+    /// Whether a file had fewer records than the state counts, once: then a state is to be kept at once.
+    pub fn take_short(&mut self) -> bool
+        ensures { (self.new.folders.files ≡ self.old.folders.files) × (self.new.streams ≡ self.old.streams)
+            × (self.new.unplaced ≡ self.old.unplaced) }
+    {
+        self.folders.take_short()
     }
 }
 

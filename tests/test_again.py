@@ -1,0 +1,98 @@
+"""Records that come once more: of a server that is behind, of one that numbers anew, and to a reader whose state was changed."""
+
+import collections
+import os
+
+import kit
+from kit import record
+
+CONFIG = 'title = "Tried"\n[[station]]\nnetwork = "GE"\ncode = "WLF"\ndescription = "tried"\ncapacity = 16384\n'
+PATH = "2024/GE/WLF/BHZ.D/GE.WLF..BHZ.D.2024.060"
+DAY = "archive/" + PATH
+INTO = [("an archive", ["--archive", "archive"], DAY, PATH), ("one file", ["--output", "records"], "records", "-")]
+
+
+class Again(kit.Test):
+    def server_of(self, count, config=CONFIG):
+        server = self.serve(config)
+        server.feed(*map(record, range(count)))
+        return server
+
+    def fetch(self, server, *words):
+        ended = self.reader(server, *words, "--fetch", "--state", "state").await_end()
+        self.assertEqual(ended.status, 0, ended.all())
+        return ended
+
+    def assert_once(self, path, count):
+        """Each record stands there once, whatever their order."""
+        found = collections.Counter(kit.identities_in(path))
+        self.assertEqual([it for it in range(count) if it not in found][:9], [], "missing")
+        self.assertEqual([it for it in found if found[it] > 1][:9], [], "doubled")
+        self.assertEqual(len(found), count)
+
+    def lines_of_stations(self):
+        return [it for it in kit.text_of("state").split("#")[0].splitlines() if it]
+
+    @kit.rows([
+        ("patterns that add up", ["GE_WLF:BH?", "GE_WLF:LH?"], ""),
+        ("the same twice", ["GE_WLF", "GE_WLF"], ""),
+        ("a line twice", ["--wants", "wants"], "GE_WLF\nGE_WLF\n"),
+    ])
+    def test_several_wants_of_a_station(self, wants, lines):
+        kit.write("wants", lines)
+        server = self.server_of(3)
+        for count in (3, 4):
+            self.fetch(server, *wants, "--archive", "archive")
+            self.assert_once(DAY, count)
+            self.assertEqual(len(self.lines_of_stations()), 1, kit.text_of("state"))
+            server.feed(record(count))
+
+    def test_a_state_with_several_lines_of_a_station(self):
+        """An earlier version wrote such ones."""
+        kit.write("state", "GE WLF 000003 -\nXX OTHER 0000AA 17\nGE WLF 000001 -\n")
+        ended = self.fetch(self.server_of(5), "GE_WLF", "--archive", "archive")
+        self.assertEqual(ended.said, "seedlinkd: several lines of one station in state, of which the lowest number counts\n")
+        self.assertEqual(kit.identities_in(DAY), [2, 3, 4])
+        self.assertEqual([it[:13] for it in self.lines_of_stations()], ["GE WLF 000004", "XX OTHER 0000"])
+
+    @kit.rows(INTO)
+    def test_a_server_that_is_behind(self, into, path, _):
+        self.fetch(self.server_of(100), "GE_WLF", *into)
+        behind = self.server_of(97)
+        self.fetch(behind, "GE_WLF", *into)
+        self.assert_once(path, 100)
+        behind.feed(*map(record, range(97, 105)))
+        self.fetch(behind, "GE_WLF", *into)
+        self.assert_once(path, 105)
+
+    @kit.rows(INTO)
+    def test_a_server_that_numbers_anew(self, into, path, _):
+        server = self.server_of(10)
+        self.fetch(server, "GE_WLF", *into)
+        server.end()
+        server = self.keep(server.again())
+        server.feed(*map(record, range(5, 13)))
+        self.fetch(server, "GE_WLF", *into)
+        self.assert_once(path, 13)
+
+    def test_a_server_whose_numbers_are_ahead(self):
+        self.fetch(self.server_of(10), "GE_WLF", "--archive", "archive")
+        self.fetch(self.server_of(15, CONFIG + 'first = "1388"\n'), "GE_WLF", "--archive", "archive")
+        self.assert_once(DAY, 15)
+
+    @kit.rows(INTO)
+    def test_a_file_that_is_shorter_than_the_state_counts(self, into, path, name):
+        os.makedirs(os.path.dirname(path) or ".", exist_ok=True)
+        kit.write(path, b"".join(map(record, range(15))))
+        kit.write("state", "GE WLF 000009 -\n#\n%s 20\n" % name)
+        self.fetch(self.server_of(20), "GE_WLF", *into)
+        self.assert_once(path, 20)
+
+    @kit.rows([INTO[0] + ("",), INTO[1] + ("#\n- 0\n",)])
+    def test_a_hole_is_filled(self, into, path, _, lengths):
+        """The number of the state is lowered, and its lines of files are removed, or the one has no record."""
+        os.makedirs(os.path.dirname(path) or ".", exist_ok=True)
+        kit.write(path, b"".join(record(it) for it in range(16000) if not 4000 <= it < 4100))
+        kit.write("state", "GE WLF 000F9F -\n" + lengths)
+        self.fetch(self.server_of(16000), "GE_WLF", *into)
+        self.assert_once(path, 16000)
