@@ -1,7 +1,6 @@
 -- When records of a station may come again that a reader was handed before.
 -- States are this project's own. Left out: which records a server hands.
-use Rattle.std.specs.Prelude.{ℕ, Bool, not, ◌==◌, ◌&&◌, ◌||◌, nat_le, Option, Some, None, List, [], ◌∷◌, map, if◌then◌else◌}
-use Rattle.std.specs.Str.{bytes_eq}
+use Rattle.std.specs.Prelude.{ℕ, Bool, not, ◌==◌, ◌&&◌, ◌||◌, nat_le, Option, Some, None}
 use Rattle.protocol.specs.Packet.{next_number}
 
 -- A packet doesn't follow on the last one of its station: its number is not after that of the last one, or is any other

@@ -2,6 +2,7 @@
 ghost use Rattle.std.specs.Prelude.{◌≡◌, None};
 
 use crate::clock::milliseconds;
+use crate::moment::Moment;
 use crate::notices::{ErrorTeller, Notice, Teller};
 use crate::returns::LastNumbers;
 use crate::torn::tell_torn;
@@ -15,7 +16,7 @@ use record_archive::{Archive, ArchiveFault, StationCodes, StationLocks, TopFault
 use sl_io::WriteFault;
 use slreader::{GivenPacket, Want};
 use std::alloc::{AllocError, Global};
-use std::cell::{Cell, RefCell};
+use std::cell::RefCell;
 use std::fs::File;
 use std::io::{self, Write};
 use std::num::NonZeroUsize;
@@ -35,8 +36,7 @@ pub struct ToldArchive<'r> {
     rt: &'r HostRuntime,
     archive: RefCell<DiskArchive<'r>>,
     numbers: LastNumbers,
-    /// Set if a state is to be kept at once.
-    is_urgent: &'r Cell<bool>,
+    moment: &'r Moment,
     _locks: StationLocks,
     teller: ErrorTeller<'r>,
     count: UnplacedCount,
@@ -88,7 +88,7 @@ pub fn archive_at<'r, 'a: 'r>(
     named: Option<Vec<FileLength>>,
     wants: &[Want<'_>],
     numbers: LastNumbers,
-    is_urgent: &'r Cell<bool>,
+    moment: &'r Moment,
 ) -> Result<ToldArchive<'r>, Incident<'a>> {
     let Ok(stations) = stations_of(rt.alloc(), wants) else {
         return Err(Incident::from(Failure::OutOfMemory));
@@ -100,7 +100,7 @@ pub fn archive_at<'r, 'a: 'r>(
         rt,
         archive: RefCell::new(Archive::new(rt.alloc(), files, stations)),
         numbers,
-        is_urgent,
+        moment,
         _locks: locks,
         teller: ErrorTeller::new(rt),
         count: UnplacedCount::new(),
@@ -192,14 +192,14 @@ fn put_to(
     archive: &mut DiskArchive<'_>,
     packet: &GivenPacket<'_>,
     is_return: bool,
-    is_urgent: &Cell<bool>,
+    moment: &Moment,
 ) -> (Result<(), ArchiveFault>, u64, Option<String>) {
     if is_return {
         archive.return_to_begin();
     }
     let put = archive.put(packet.record(), packet.header());
     if archive.take_short() {
-        is_urgent.set(true);
+        moment.hurry();
     }
     let torn = archive.take_torn();
     (put, archive.unplaced(), torn)
@@ -219,9 +219,9 @@ impl RecordSink for ToldArchive<'_> {
     }
 
     fn put(&mut self, packet: &GivenPacket<'_>) -> Result<(), SinkFault> {
-        let is_return = self.numbers.note(packet);
+        let is_return = self.numbers.note(packet, self.moment.connection());
         let archive = self.archive.get_mut();
-        let (put, unplaced, torn) = put_to(archive, packet, is_return, self.is_urgent);
+        let (put, unplaced, torn) = put_to(archive, packet, is_return, self.moment);
         self.tell(unplaced, torn);
         match put {
             Ok(()) => Ok(()),
@@ -244,8 +244,7 @@ pub struct ToldOutput<'r> {
     rt: &'r HostRuntime,
     output: RefCell<ContinuedOutput<DiskFiles<'r>>>,
     numbers: LastNumbers,
-    /// Set if a state is to be kept at once.
-    is_urgent: &'r Cell<bool>,
+    moment: &'r Moment,
     failures: u64,
 }
 
@@ -256,14 +255,14 @@ pub fn output_at<'r, 'a: 'r>(
     path: &'a str,
     named: Vec<FileLength>,
     numbers: LastNumbers,
-    is_urgent: &'r Cell<bool>,
+    moment: &'r Moment,
 ) -> ToldOutput<'r> {
     let files = files_at(rt, FilePlace::At(path), 0, Some(named), Unnamed::Kept);
     ToldOutput {
         rt,
         output: RefCell::new(ContinuedOutput::new(files)),
         numbers,
-        is_urgent,
+        moment,
         failures: 0,
     }
 }
@@ -333,14 +332,14 @@ fn put_one(
     output: &mut ContinuedOutput<DiskFiles<'_>>,
     packet: &GivenPacket<'_>,
     is_return: bool,
-    is_urgent: &Cell<bool>,
+    moment: &Moment,
 ) -> (Result<(), FolderFault>, Option<String>) {
     if is_return {
         output.return_to_begin();
     }
     let put = output.put(packet.record());
     if output.take_short() {
-        is_urgent.set(true);
+        moment.hurry();
     }
     let torn = output.take_torn();
     (put, torn)
@@ -360,8 +359,8 @@ impl RecordSink for ToldOutput<'_> {
     }
 
     fn put(&mut self, packet: &GivenPacket<'_>) -> Result<(), SinkFault> {
-        let is_return = self.numbers.note(packet);
-        let (put, torn) = put_one(self.output.get_mut(), packet, is_return, self.is_urgent);
+        let is_return = self.numbers.note(packet, self.moment.connection());
+        let (put, torn) = put_one(self.output.get_mut(), packet, is_return, self.moment);
         if let Some(path) = torn {
             tell_torn(self.rt, path.as_str());
         }

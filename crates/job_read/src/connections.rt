@@ -140,6 +140,7 @@ impl<'r, 'a, 'w> Servers for ServersInTurn<'r, 'a, 'w> {
     fn connect(&mut self) -> Result<Connected<'r>, Incident<'a>> {
         self.reading.renewal.begin();
         self.reading.patience.begin();
+        self.reading.moment.connect();
         for _ in 0..u64::MAX {
             let server = self.server()?;
             match connected(self.rt, server, self.inlet, self.reading) {

@@ -13,6 +13,7 @@ mod hearing;
 mod inlet;
 mod keep_time;
 mod line;
+mod moment;
 mod notices;
 mod patience;
 mod places;

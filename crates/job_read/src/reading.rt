@@ -8,10 +8,11 @@ use crate::connections::ServersInTurn;
 use crate::endings::goes_on;
 use crate::following::follow_any;
 use crate::inlet::Inlet;
+use crate::moment::Moment;
 use crate::patience::{Patience, pause, silence_between, time_limit};
 use crate::places::Places;
 use crate::returns::LastNumbers;
-use crate::states::{SameFile, StateFile, StateKeeper};
+use crate::states::{SameFile, StateFile, StateKeeper, locked_output};
 use crate::wants::{wants_of, wants_text};
 use crate::windows::Moments;
 use command_line::ReadOptions;
@@ -26,7 +27,6 @@ use record_check::Times;
 use sl_io::{Outer, Sink};
 use slreader::{Tally, Want, Window};
 use std::alloc::{AllocError, Global};
-use std::cell::Cell;
 use std::fs::{File, OpenOptions};
 use std::time::Duration;
 use std::{fs, io, thread};
@@ -61,8 +61,8 @@ pub struct Reading<'a, 'w> {
     pub patience: Patience,
     /// How times are written.
     pub times: Times,
-    /// Whether a state is to be kept at once.
-    pub is_urgent: Cell<bool>,
+    /// What connections and files have to say to each other.
+    pub moment: Moment,
 }
 
 impl<'a> Reading<'a, '_> {
@@ -150,7 +150,7 @@ fn list_after<'a, O: Sink + Drop, P: RecordSink + Lasting>(
         output,
         &inlet,
         &reading.patience,
-        &reading.is_urgent,
+        &reading.moment,
     );
     let read = follow_any(rt, reading, tally, &mut servers, out, records, &mut keeper);
     match read {
@@ -213,7 +213,20 @@ fn list_records<'a>(
 ) -> Result<(), Incident<'a>> {
     let lines = Outer::new(ErrorOutput::new(rt));
     let mut records = Gathered::new(rt.alloc(), Outer::new(io::writer(rt)));
-    list_on(rt, reading, state, None, lines, &mut records)
+    let same = standard_output(rt);
+    list_on(rt, reading, state, same, lines, &mut records)
+}
+
+/// The plain file to which the standard output leads, if it does, once more.
+fn standard_output<'a>(rt: &HostRuntime) -> Option<SameFile<'a>> {
+    let path = "/dev/stdout";
+    if !is_plain(rt, path) {
+        return None;
+    }
+    match OpenOptions::new().append(true).open(rt, path) {
+        Ok(file) => Some(SameFile { path: "-", file }),
+        Err(_) => None,
+    }
 }
 
 /// Lists packets on the standard output, and adds their records to a file.
@@ -263,6 +276,7 @@ fn list_and_go_on<'a>(
     path: &'a str,
 ) -> Result<(), Incident<'a>> {
     drop_file(opened_to_add(rt, path)?);
+    let lock = locked_output(rt, path)?;
     state.name_output(rt, path)?;
     let Ok(lengths) = state.lengths(rt.alloc()) else {
         return Err(Incident::from(Failure::OutOfMemory));
@@ -270,15 +284,17 @@ fn list_and_go_on<'a>(
     let Ok(numbers) = LastNumbers::new(rt.alloc(), &reading.wants, state.before(), false) else {
         return Err(Incident::from(Failure::OutOfMemory));
     };
-    let mut records = output_at(rt, path, lengths, numbers, &reading.is_urgent);
+    let mut records = output_at(rt, path, lengths, numbers, &reading.moment);
     let lines = Outer::new(io::writer(rt));
-    match list_on(rt, reading, Some(state), None, lines, &mut records) {
+    let read = list_on(rt, reading, Some(state), None, lines, &mut records);
+    drop_file(lock);
+    match read {
         Ok(()) => Ok(()),
         Err(incident) => Err(incident.at_output(path, records.take_reason())),
     }
 }
 
-/// A file that was only opened to see whether it can be.
+/// A file is closed.
 fn drop_file<F: Drop>(_file: F) {}
 
 /// Whether a path names a plain file, or nothing yet.
@@ -298,8 +314,8 @@ fn list_and_archive<'a>(
 ) -> Result<(), Incident<'a>> {
     let lengths = lengths_in(rt.alloc(), &state)?;
     let numbers = numbers_in(rt.alloc(), reading, &state)?;
-    let urgent = &reading.is_urgent;
-    let mut archive = archive_at(rt, top, lengths, &reading.wants, numbers, urgent)?;
+    let moment = &reading.moment;
+    let mut archive = archive_at(rt, top, lengths, &reading.wants, numbers, moment)?;
     let lines = Outer::new(io::writer(rt));
     let read = list_on(rt, reading, state, None, lines, &mut archive);
     let failure = archive.end();
@@ -409,7 +425,7 @@ fn read_between<'a>(
         renewal: Renewal::new(options.retry.is_some()),
         patience,
         times: times_of(options.is_iso),
-        is_urgent: Cell::new(false),
+        moment: Moment::new(),
     };
     read_to(rt, &reading, options)
 }

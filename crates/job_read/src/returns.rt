@@ -1,9 +1,10 @@
 //! Numbers of stations that don't follow on each other: the server is behind another one, or numbers anew, and may hand
 //! records once more.
 //!
-//! A jump forth is one, too, where all records of a station are asked for and files end with their days: a server that
-//! numbers for itself may be ahead. To take one for such a server costs that files are read once, not to do so doubles
-//! records. A station whose packets have not come since the last return needs none: all of each file is tail since then.
+//! A jump forth at the beginning of a connection is one, too, if all records of the station are asked for and files end
+//! with their days: a server that numbers for itself may be ahead. To take one for such a server costs that files are
+//! read once, not to do so doubles records. A station whose packets have not come since the last return needs none: all
+//! of each file is tail since then.
 ghost use Rattle.std.specs.Prelude.{◌≡◌, ◌<◌, IfSome, length};
 ghost use Rattle.job_read.specs.Returns.{is_jump};
 
@@ -17,8 +18,10 @@ use std::alloc::{AllocError, Global};
 struct Numbered {
     network: Vec<u8>,
     station: Vec<u8>,
-    /// Whether each number that is not the next one is a jump.
+    /// Whether each number that is not the next one is a jump, at the beginning of a connection.
     is_each: bool,
+    /// The connection over which the last packet came.
+    connection: u64,
     last: Option<Seq>,
     /// Whether packets of it came since the last return.
     is_passed: bool,
@@ -72,6 +75,7 @@ impl LastNumbers {
                 network: Vec::from_slice(alloc, want.network)?,
                 station: Vec::from_slice(alloc, want.station)?,
                 is_each: is_each && are_whole(want.network, want.station, wants),
+                connection: 0,
                 last: reached.map(|reached| reached.number),
                 is_passed: true,
             })?;
@@ -101,12 +105,14 @@ impl LastNumbers {
     }
 
     /// A packet with that number came, of the station at a place. Answers whether all of each file is to be tail.
-    fn note_at(&mut self, at: usize, number: Seq) -> bool
+    fn note_at(&mut self, at: usize, number: Seq, connection: u64) -> bool
         requires { at < length self.old.all.items }
     {
         let one = &mut self.all[at];
-        let is_return = one.is_passed && is_jump(one.is_each, one.last, number);
+        let is_each = one.is_each && one.connection != connection;
+        let is_return = one.is_passed && is_jump(is_each, one.last, number);
         one.last = Some(number);
+        one.connection = connection;
         if is_return {
             self.begin_anew();
         }
@@ -114,14 +120,15 @@ impl LastNumbers {
         is_return
     }
 
-    /// A packet came. Answers whether all of each file is to be tail: records that stand there may come once more.
-    pub fn note(&mut self, packet: &GivenPacket<'_>) -> bool {
+    /// A packet came over that connection. Answers whether all of each file is to be tail: records that stand there may
+    /// come once more.
+    pub fn note(&mut self, packet: &GivenPacket<'_>, connection: u64) -> bool {
         let number = Seq::parse(&packet.bytes()[2..8]);
         let (Some(number), Some(header)) = (number, packet.header()) else {
             return false;
         };
         match self.place_of(header.network(), header.station()) {
-            Some(at) => self.note_at(at, number),
+            Some(at) => self.note_at(at, number, connection),
             None => false,
         }
     }

@@ -6,6 +6,7 @@ use crate::archiving::{Lasting, site_of};
 use crate::clock::milliseconds;
 use crate::inlet::Inlet;
 use crate::keep_time::{EVERY, KeepTime, keep_time};
+use crate::moment::Moment;
 use crate::patience::Patience;
 use crate::torn::tell_doubled;
 use continued_files::FileLength;
@@ -17,7 +18,6 @@ use reader_state::{KeptState, StateFault, read_doubled, read_state, write_state}
 use sl_io::{Outer, ReadFault, read_all};
 use slreader::{LastPacket, Tally, Want};
 use std::alloc::{AllocError, Global};
-use std::cell::Cell;
 use std::fs::{File, OpenOptions, TryLockError};
 use std::io::ErrorKind;
 use std::{fs, io};
@@ -49,7 +49,7 @@ impl<'a> StateFile<'a> {
             Ok(place) => place,
             Err(reason) => return Err(unopened(path, reason)),
         };
-        let lock = locked(rt, place.as_str(), path)?;
+        let lock = locked(rt, place.as_str(), path, "another reader keeps this state")?;
         let before = state_at(rt, place.as_str(), path)?;
         match StateFile::of(rt.alloc(), path, place, lock, before) {
             Ok(file) => Ok(file),
@@ -157,8 +157,27 @@ impl<'a> StateFile<'a> {
     }
 }
 
-/// The lock of the state at a place, that a word names: a file beside it.
-fn locked<'a>(rt: &HostRuntime, place: &str, path: &'a str) -> Result<File, Incident<'a>> {
+/// Locks the one file to which a reader with a state adds records, so that no other one counts its own records there.
+pub fn locked_output<'a>(rt: &HostRuntime, path: &'a str) -> Result<File, Incident<'a>> {
+    match place_of(rt, path) {
+        Ok(place) => locked(
+            rt,
+            place.as_str(),
+            path,
+            "another reader adds records to this file",
+        ),
+        Err(reason) => Err(unopened(path, reason)),
+    }
+}
+
+/// The lock of the file at a place, that a word names: a file beside it. What is said of a file that is locked is that
+/// text.
+fn locked<'a>(
+    rt: &HostRuntime,
+    place: &str,
+    path: &'a str,
+    text: &'static str,
+) -> Result<File, Incident<'a>> {
     let Ok(name) = format!(in rt.alloc(); "{place}.lock") else {
         return Err(Incident::from(Failure::OutOfMemory));
     };
@@ -176,14 +195,11 @@ fn locked<'a>(rt: &HostRuntime, place: &str, path: &'a str) -> Result<File, Inci
     };
     match lock.try_lock() {
         Ok(()) => Ok(lock),
-        Err(TryLockError::WouldBlock) => Err(unopened(path, kept_by_another())),
+        Err(TryLockError::WouldBlock) => {
+            Err(unopened(path, io::Error::new(ErrorKind::ResourceBusy, text)))
+        }
         Err(TryLockError::Error(reason)) => Err(unopened(path, reason)),
     }
-}
-
-/// What is said of a state that is locked.
-fn kept_by_another() -> io::Error {
-    io::Error::new(ErrorKind::ResourceBusy, "another reader keeps this state")
 }
 
 /// What is said of a state that was changed to something else.
@@ -304,8 +320,8 @@ pub struct StateKeeper<'r, 'a, 'w> {
     inlet: &'r Inlet,
     /// What its server owes.
     patience: &'r Patience,
-    /// Whether a state is to be kept at once.
-    is_urgent: &'r Cell<bool>,
+    /// What says whether a state is to be kept at once.
+    moment: &'r Moment,
     /// When the state was kept last, in milliseconds.
     kept: u64,
     unkept: Option<Unkept<'a>>,
@@ -321,7 +337,7 @@ impl<'r, 'a, 'w> StateKeeper<'r, 'a, 'w> {
         output: Option<SameFile<'a>>,
         inlet: &'r Inlet,
         patience: &'r Patience,
-        is_urgent: &'r Cell<bool>,
+        moment: &'r Moment,
     ) -> StateKeeper<'r, 'a, 'w> {
         StateKeeper {
             rt,
@@ -331,7 +347,7 @@ impl<'r, 'a, 'w> StateKeeper<'r, 'a, 'w> {
             lengths: None,
             inlet,
             patience,
-            is_urgent,
+            moment,
             kept: 0,
             unkept: None,
             failures: 0,
@@ -385,7 +401,7 @@ impl<P: RecordSink + Lasting> Keeper<P> for StateKeeper<'_, '_, '_> {
         if self.file.is_none() {
             return false;
         }
-        if self.is_urgent.replace(false) {
+        if self.moment.take_hurry() {
             return true;
         }
         let passed = self.now().saturating_sub(self.kept);
