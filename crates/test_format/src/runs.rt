@@ -273,7 +273,13 @@ static CASES: [Case; 12] = [
     (&[0, 1, 2, 3], 0, &[1, 3, 0, 2, 4], &[0, 1, 2, 3, 4], 5),
     (&[0, 1, 2, 3], 1, &[4, 3, 2], &[0, 1, 2, 3, 4], 1),
     // A hole is filled, and what stands behind it comes again.
-    (&[0, 1, 5, 6, 7], 1, &[1, 2, 3, 4, 5, 6, 7, 8], &[0, 1, 5, 6, 7, 2, 3, 4, 8], 9),
+    (
+        &[0, 1, 5, 6, 7],
+        1,
+        &[1, 2, 3, 4, 5, 6, 7, 8],
+        &[0, 1, 5, 6, 7, 2, 3, 4, 8],
+        9,
+    ),
     // Two places have the same record, which comes twice, and then once more.
     (&[0, 1, 1], 1, &[1, 1, 1], &[0, 1, 1, 1], 4),
     // What was counted is added again, if it is handed.
