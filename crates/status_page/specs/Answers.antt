@@ -20,8 +20,8 @@ code_of is_silent Health = if is_silent then codes "503 Service Unavailable" els
 code_of is_silent Plain = if is_silent then codes "503 Service Unavailable" else codes "200 OK"
 code_of is_silent Missing = codes "404 Not Found"
 code_of is_silent NotAllowed = codes "405 Method Not Allowed"
-code_of is_silent TooLong = codes "431 StatusRequest Header Fields Too Large"
-code_of is_silent Invalid = codes "400 Bad StatusRequest"
+code_of is_silent TooLong = codes "431 Request Header Fields Too Large"
+code_of is_silent Invalid = codes "400 Bad Request"
 
 -- what its body is
 abbrev pub kind_of : Target → List ℕ

@@ -24,8 +24,8 @@ fn code_of(target: Target, is_silent: bool) -> &'static [u8]
         },
         Target::Missing => b"404 Not Found",
         Target::NotAllowed => b"405 Method Not Allowed",
-        Target::TooLong => b"431 StatusRequest Header Fields Too Large",
-        Target::Invalid => b"400 Bad StatusRequest",
+        Target::TooLong => b"431 Request Header Fields Too Large",
+        Target::Invalid => b"400 Bad Request",
     }
 }
 
