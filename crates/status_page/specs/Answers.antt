@@ -34,7 +34,9 @@ kind_of _ = codes "text/plain; charset=utf-8"
 unfoldable pub fields_text : ℕ → List ℕ
 fields_text size =
     joined (codes "\r\nContent-Length: " ∷ decimal size ∷ codes "\r\nConnection: close\r\nAllow: GET, HEAD"
-    ∷ codes "\r\nCache-Control: no-store\r\nX-Content-Type-Options: nosniff\r\n\r\n" ∷ [])
+    ∷ codes "\r\nCache-Control: no-store\r\nX-Content-Type-Options: nosniff"
+    ∷ codes "\r\nContent-Security-Policy: default-src 'none'; style-src 'unsafe-inline';"
+    ∷ codes " base-uri 'none'; form-action 'none'\r\n\r\n" ∷ [])
 
 -- the head of an answer with so many bytes after it
 unfoldable pub head_text : (code kind : List ℕ) → (size : ℕ) → List ℕ

@@ -51,7 +51,11 @@ fn put_fields(text: &mut Vec<u8>, size: usize) -> Result<(), AllocError>
             Part::Text(b"\r\nContent-Length: "),
             Part::Number(size as u64),
             Part::Text(b"\r\nConnection: close\r\nAllow: GET, HEAD"),
-            Part::Text(b"\r\nCache-Control: no-store\r\nX-Content-Type-Options: nosniff\r\n\r\n"),
+            Part::Text(b"\r\nCache-Control: no-store\r\nX-Content-Type-Options: nosniff"),
+            Part::Text(
+                b"\r\nContent-Security-Policy: default-src 'none'; style-src 'unsafe-inline';",
+            ),
+            Part::Text(b" base-uri 'none'; form-action 'none'\r\n\r\n"),
         ],
     )
 }
