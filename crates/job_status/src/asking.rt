@@ -7,7 +7,7 @@ use std::net::TcpStream;
 use std::time::Duration;
 
 /// What is asked.
-const QUESTION: &[u8] = b"GET /plain HTTP/1.1\r\nHost: status\r\nConnection: close\r\n\r\n";
+const QUESTION: &[u8] = b"GET /plain HTTP/1.1\r\nHost: localhost\r\nConnection: close\r\n\r\n";
 
 /// How many seconds each byte is waited for.
 const PATIENCE: u64 = 10;

@@ -1,3 +1,4 @@
 mod EscapeLemmas
+mod HostLemmas
 mod LoopLemmas
 mod MinuteLemmas

@@ -3,7 +3,7 @@ use Rattle.std.specs.Prelude.{ℕ, Bool, if◌then◌else◌, List, [], ◌∷�
 use Rattle.status_page.specs.declared.request.StatusRequest.{StatusRequest}
 use Rattle.status_page.specs.declared.request.Target.{Target}
 use Rattle.status_page.specs.declared.request.Target.TheVariants.{Page, PageByAge, Metrics, Health, Plain, Missing}
-use Rattle.status_page.specs.declared.request.Target.TheVariants.{NotAllowed, TooLong, Invalid}
+use Rattle.status_page.specs.declared.request.Target.TheVariants.{NotAllowed, Misdirected, TooLong, Invalid}
 use Rattle.status_page.specs.declared.value.StatusValue.{StatusValue}
 use Rattle.status_page.specs.Metrics.{metrics_text}
 use Rattle.status_page.specs.Pages.{page_text}
@@ -20,6 +20,7 @@ code_of is_silent Health = if is_silent then codes "503 Service Unavailable" els
 code_of is_silent Plain = if is_silent then codes "503 Service Unavailable" else codes "200 OK"
 code_of is_silent Missing = codes "404 Not Found"
 code_of is_silent NotAllowed = codes "405 Method Not Allowed"
+code_of is_silent Misdirected = codes "421 Misdirected Request"
 code_of is_silent TooLong = codes "431 Request Header Fields Too Large"
 code_of is_silent Invalid = codes "400 Bad Request"
 

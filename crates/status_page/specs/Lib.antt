@@ -4,5 +4,6 @@ pub mod Pages
 pub mod Metrics
 pub mod Plain
 pub mod Escapes
+pub mod Hosts
 pub mod Requests
 pub mod Answers

@@ -1,10 +1,12 @@
 -- What is asked of the status port. HTTP/1.1: GET and HEAD. The paths are this project's own.
 use Rattle.std.specs.Prelude.{ℕ, if◌then◌else◌, List, true, false, codes}
 use Rattle.std.specs.Str.{bytes_eq}
+use Rattle.httparse.specs.Grammar.{RequestHead}
+use Rattle.status_page.specs.Hosts.{any_foreign}
 use Rattle.status_page.specs.declared.request.StatusRequest.{StatusRequest}
 use Rattle.status_page.specs.declared.request.Target.{Target}
 use Rattle.status_page.specs.declared.request.Target.TheVariants.{Page, PageByAge, Metrics, Health, Plain, Missing}
-use Rattle.status_page.specs.declared.request.Target.TheVariants.{NotAllowed}
+use Rattle.status_page.specs.declared.request.Target.TheVariants.{NotAllowed, Misdirected}
 
 -- how many fields a head may have
 abbrev pub MAX_FIELDS : ℕ
@@ -26,3 +28,9 @@ request_of method path =
     if bytes_eq method (codes "GET") then record { target = target_of path; is_head = false }
     else if bytes_eq method (codes "HEAD") then record { target = target_of path; is_head = true }
     else record { target = NotAllowed; is_head = false }
+
+-- what is asked by a head: nothing is told whoever asks by the name of another site
+unfoldable pub asked_by : RequestHead → StatusRequest
+asked_by h =
+    if any_foreign h.fields then record (request_of h.method h.target) { target = Misdirected }
+    else request_of h.method h.target

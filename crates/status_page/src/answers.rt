@@ -24,6 +24,7 @@ fn code_of(target: Target, is_silent: bool) -> &'static [u8]
         },
         Target::Missing => b"404 Not Found",
         Target::NotAllowed => b"405 Method Not Allowed",
+        Target::Misdirected => b"421 Misdirected Request",
         Target::TooLong => b"431 Request Header Fields Too Large",
         Target::Invalid => b"400 Bad Request",
     }

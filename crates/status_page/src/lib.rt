@@ -3,6 +3,7 @@
 #![tactic(auto)]
 
 mod answers;
+mod host;
 pub mod laws;
 mod metrics;
 pub mod page;

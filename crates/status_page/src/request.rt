@@ -1,9 +1,11 @@
 //! What is asked of the status port: the head of a request, and what it is for.
 ghost use Rattle.std.specs.Prelude.{◌≡◌, ◌≤◌, ℕ, List, None, Some, length};
+ghost use Rattle.httparse.specs.Spans.{IsRequestAt, IsRequestWithin};
 ghost use Rattle.httparse.specs.Grammar.{HasNoRequest, ReadsRequest, RequestHead};
-ghost use Rattle.status_page.specs.Requests.{MAX_FIELDS, request_of, target_of};
+ghost use Rattle.status_page.specs.Requests.{MAX_FIELDS, asked_by, request_of, target_of};
 
-use httparse::spans::{EMPTY_HEADER_SPAN, HeaderSpan, parse_request};
+use crate::host::is_any_foreign;
+use httparse::spans::{EMPTY_HEADER_SPAN, HeaderSpan, RequestSpans, parse_request};
 use httparse::{Error, Status};
 
 /// How many fields a head may have.
@@ -26,6 +28,8 @@ pub enum Target {
     Missing,
     /// It is asked by another method than GET and HEAD.
     NotAllowed,
+    /// It is asked by the name of another site.
+    Misdirected,
     /// The head is too long, or has too many fields.
     TooLong,
     /// It is not the head of a request.
@@ -89,18 +93,29 @@ fn refusal(target: Target) -> StatusRequest {
     }
 }
 
+/// What is asked by a head whose parts are there.
+#[tactic(auto, unfolding(crate::specs::Requests::asked_by), using(crate::proofs::HostLemmas::same_foreign))]
+fn asked_by(bytes: &[u8], fields: &[HeaderSpan], head: RequestSpans) -> StatusRequest
+    requires { IsRequestWithin bytes.now fields.now head }
+    ensures { (h : RequestHead) → IsRequestAt bytes.now fields.now head h → result ≡ asked_by h }
+{
+    let mut request = request_of(head.method.of(bytes), head.path.of(bytes));
+    if is_any_foreign(bytes, &fields[..head.headers]) {
+        request.target = Target::Misdirected;
+    }
+    request
+}
+
 /// What the bytes that came ask, if they hold the head of a request with at most 64 fields. Else what is wrong with
 /// them; None if more bytes may complete a head and more are taken.
 pub fn request_in(bytes: &[u8], is_full: bool) -> Option<StatusRequest>
     ensures asked { (head : RequestHead) (rest : List ℕ) → ReadsRequest bytes.now head rest →
-        length head.fields ≤ MAX_FIELDS → result ≡ Some (request_of head.method head.target) }
+        length head.fields ≤ MAX_FIELDS → result ≡ Some (asked_by head) }
     ensures unfinished { result ≡ None → HasNoRequest bytes.now }
 {
     let mut fields = [EMPTY_HEADER_SPAN; FIELDS];
     match parse_request(bytes, &mut fields) {
-        Ok(Status::Complete(head)) => {
-            Some(request_of(head.method.of(bytes), head.path.of(bytes)))
-        }
+        Ok(Status::Complete(head)) => Some(asked_by(bytes, &fields, head)),
         Ok(Status::Partial) => {
             if is_full {
                 Some(refusal(Target::TooLong))
