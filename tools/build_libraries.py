@@ -28,7 +28,7 @@ MEMORY = os.sysconf("SC_PAGE_SIZE") * os.sysconf("SC_PHYS_PAGES")
 MEMORY_OF_A_BUILD = 3 << 30  # what a crate takes at most with two jobs, but for the following
 LARGE = dict.fromkeys(("protocol", "incidents", "job_base", "job_check", "job_feed", "job_read", "job_serve"), 4 << 30)
 PROCESSORS = len(os.sched_getaffinity(0))
-USUAL = 40 * 60 * 4 / PROCESSORS  # seconds that the whole program takes, as it is known before anything is done
+USUAL = 20 * 60 * 4 / PROCESSORS  # seconds that the whole program takes, as it is known before anything is done
 TRUSTED = 60  # seconds for which that counts as much as what was seen since
 
 started = {}  # the processes that run, by their ids, each the first of a session of its own
