@@ -12,6 +12,7 @@ DAY = "archive/" + PATH
 INTO = [("an archive", ["--archive", "archive"], DAY, PATH), ("one file", ["--output", "records"], "records", "-")]
 
 
+@kit.unreleased
 class Again(kit.Test):
     def server_of(self, count, config=CONFIG):
         server = self.serve(config)
