@@ -444,8 +444,8 @@ ROWS = (
     # the reader
     Row(1_550, "a packet that is read and listed", one_packet),
     Row(percent(one_packet, 110), "the same with 255 WANTs, their stations by turns", packet(255)),
-    Row(3_450, "a packet of one station that is read into an archive", packet(1, archive=True)),
-    Row(3_900, "the same of three stations by turns", packet(3, archive=True)),
+    Row(3_700, "a packet of one station that is read into an archive", packet(1, archive=True)),
+    Row(4_100, "the same of three stations by turns", packet(3, archive=True)),
     Row(13_000, "the same of 64 stations by turns", packet(64, archive=True)),
     # the other jobs
     Row(4_000, "seedlinkd check, a record read out of the file and its line written", checked, "libmseed, the same: about 5,800"),
