@@ -277,6 +277,8 @@ class Wrong:
         self.changes_tree = "\n# changes the tree\n" in text
         # Why it could not be made, the tests that noticed it with their reasons, and how many were run.
         self.fault, self.noticed, self.made = None, [], 0
+        # How many of these are of what the release does not do yet.
+        self.not_yet = 0
 
     def choose(self, tests, is_all):
         """Takes the tests that its names stand for, and leaves out slow ones, but for all."""
@@ -302,6 +304,10 @@ class Wrong:
             return {"patience": kit.PATIENCE, "limit": test["limit"]}
         return {"patience": PATIENCE_IF_WRONG, "limit": min(test["limit"], LIMIT_IF_WRONG)}
 
+    def is_not_yet(self):
+        """Whether all that could notice it is of what the release does not do yet."""
+        return self.fault is None and 0 < self.made == self.not_yet
+
     def is_as_wanted(self):
         return self.fault is None and bool(self.noticed) != self.is_right
 
@@ -309,6 +315,8 @@ class Wrong:
         """What came of it, with the tests that noticed it and why."""
         if self.fault is not None:
             came = "COULD NOT BE MADE: " + self.fault
+        elif self.is_not_yet():
+            came = "not tried: " + kit.NOT_YET
         elif self.is_right:
             came = "NOTICED, though it does nothing wrong" if self.noticed else "not noticed, as it should be, by %d tests" % self.made
         else:
@@ -425,6 +433,7 @@ def run_wrong(wrong, program, options):
             processor[0] += result["processor"]
             it = by_name[job["wrong"]]
             it.made += 1
+            it.not_yet += result["skipped"] == kit.NOT_YET
             if result["wrong"]:
                 it.noticed.append((job["shown"], reason_in(result["wrong"])))
             if options.times:
@@ -440,5 +449,6 @@ def run_wrong(wrong, program, options):
         print(it.line())
     if left_out:
         print("%d for --all: %s" % (len(left_out), " ".join(left_out)))
-    passed = sum(it.is_as_wanted() for it in wrong)
-    return passed, len(wrong) - passed, processor[0]
+    tried = [it for it in wrong if not it.is_not_yet()]
+    passed = sum(it.is_as_wanted() for it in tried)
+    return passed, len(tried) - passed, processor[0]
