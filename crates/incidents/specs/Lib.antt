@@ -1,4 +1,1 @@
-pub mod Faults
-pub mod Kinds
-pub mod PartTexts
 pub mod Sites

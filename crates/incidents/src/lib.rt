@@ -3,14 +3,9 @@
 #![tactic(auto)]
 
 mod failure;
-mod faults;
 mod incident;
-mod kinds;
-mod part_texts;
 mod site;
 
 pub use failure::Failure;
-pub use faults::{NumbersFault, ReplayFault, StateRefusal, StatusFault, WantsFault};
 pub use incident::{Incident, ToldIncident};
-pub use kinds::{FileKind, kind_of};
-pub use site::{FoundFault, FoundFile, Site, WantPlace};
+pub use site::{Detail, Place, Site};

@@ -1,4 +1,4 @@
-//! What the jobs of `seedlinkd` share: servers that words name, files that are read or replaced whole, configurations
+//! What the jobs of `seedlinkd` share: servers that words name, files that are read whole, configurations
 //! among them, and what stands between a job and its device. It does not know which job does what, and when.
 #![tactic(auto)]
 
@@ -6,7 +6,9 @@ mod begun;
 mod configured;
 mod descriptors;
 mod endpoint;
-mod files;
+mod found;
+mod inputs;
+mod lists;
 mod misspelled;
 mod plain_files;
 mod progress;
@@ -20,9 +22,11 @@ pub use begun::{BegunFile, FirstBytes};
 pub use configured::ConfiguredStations;
 pub use descriptors::descriptor_limit;
 pub use endpoint::Endpoint;
-pub use files::{config_at, config_in, open, replace, text_at, unopened};
+pub use found::refused_records;
+pub use inputs::{config_at, config_in, lines_of, open, text_at, text_in, unopened};
+pub use lists::refused_list;
 pub use misspelled::{checked_config_at, refuse_unknown, tell_unknown_keys, unknown_lines};
-pub use plain_files::{place_of, plain_at, plain_text_at};
+pub use plain_files::{plain_at, plain_text_at};
 pub use progress::{Watched, is_output_terminal, is_terminal, size_of};
 pub use reasons::ReasonKeeper;
 pub use servers::{ServerAddress, connect, connection, server_of, unconnected};

@@ -4,12 +4,13 @@ ghost use Rattle.std.specs.Str.{IsUtf8};
 ghost use Rattle.toml.specs.Parse.{parse_document};
 ghost use Rattle.protocol.specs.Catalog.{stations_of};
 ghost use Rattle.config_explained.specs.Unknown.{named, unknown_text};
-ghost use Rattle.incidents.specs.declared.failure.Failure.TheVariants.{UnknownKeys};
+ghost use Rattle.protocol.specs.declared.reason.Reason.TheVariants.{Missing};
 
-use crate::files::{config_in, text_at};
+use crate::inputs::{config_in, text_at};
 use catalog::Config;
 use config_explained::unknown_keys;
 use incidents::{Failure, Incident};
+use protocol::reason::Reason;
 use shown_lines::ShownText;
 use std::alloc::Global;
 
@@ -25,18 +26,28 @@ pub fn unknown_lines<'a>(
 {
     match unknown_keys(alloc, config, text) {
         Ok(lines) => Ok(lines),
-        Err(_) => Err(Failure::OutOfMemory.in_file(path)),
+        Err(_) => Err(Incident::out_of_memory()),
     }
+}
+
+/// What is said of a configuration that is refused for keys that are not known.
+fn unknown_keys_found() -> Failure
+    ensures { result.reason ≡ Missing }
+{
+    Failure::by(
+        Reason::Missing,
+        Some("the configuration has keys that are not known"),
+    )
 }
 
 /// With `is_strict` a configuration is refused if there are lines that name unknown keys of it.
 pub fn refuse_unknown<'a>(path: &'a str, lines: &[u8], is_strict: bool) -> Result<(), Incident<'a>>
     ensures taken { IfOk result (λ _. is_strict ≡ true → lines.now ≡ []) }
     ensures refused { IfErr result (λ incident.
-        (is_strict ≡ true) × (incident.failure ≡ UnknownKeys)) }
+        (is_strict ≡ true) × (incident.failure.reason ≡ Missing)) }
 {
     if is_strict && !lines.is_empty() {
-        return Err(Failure::UnknownKeys.in_file(path));
+        return Err(unknown_keys_found().in_file(path));
     }
     Ok(())
 }

@@ -4,10 +4,10 @@
 //! are. `check` is silent while its lines go to the same terminal, since these show it.
 ghost use Rattle.std.specs.Prelude.{◌≡◌};
 
+use files::milliseconds;
 use std::fs::File;
 use std::io::{self, Read};
 use std::marker::Model;
-use std::rt::Clock;
 
 /// The length of a record, in bytes.
 const RECORD: u64 = 512;
@@ -114,11 +114,8 @@ impl<'r, T> Watched<'r, T> {
     /// So many bytes more are read.
     fn add_bytes(&mut self, count: usize) {
         self.meter.add_bytes(count);
-        if let Ok(now) = self.rt.monotonic() {
-            let now = u64::try_from(now.as_millis()).unwrap_or(u64::MAX);
-            if self.meter.comes(now) {
-                self.show();
-            }
+        if self.meter.comes(milliseconds(self.rt)) {
+            self.show();
         }
     }
 

@@ -1,10 +1,11 @@
 //! Servers that words name, and connections to them.
 ghost use Rattle.std.specs.Prelude.{◌≡◌, IfErr, IfOk, None, Some};
-ghost use Rattle.incidents.specs.declared.failure.Failure.TheVariants.{Address};
+ghost use Rattle.protocol.specs.declared.reason.Reason.TheVariants.{Address};
 ghost use Rattle.job_base.specs.Endpoints.{endpoint_of, endpoint_value};
 
 use crate::endpoint::Endpoint;
-use incidents::{Failure, Incident, Site};
+use incidents::{Failure, Incident, Place};
+use protocol::reason::Reason;
 use std::io;
 use std::net::{SocketAddr, TcpStream};
 
@@ -15,6 +16,15 @@ pub struct ServerAddress<'a> {
     pub endpoint: Endpoint,
 }
 
+/// What is said of a word that is no address with a port.
+fn no_address() -> Failure
+    ensures { result.reason ≡ Address }
+{
+    Failure::by(Reason::Address, Some("a word is no address with a port")).allowing(
+        "an address and a port, as 127.0.0.1:18000",
+    )
+}
+
 /// The address that a word names.
 ///
 /// It fails with Address where the word is no address with a port.
@@ -22,11 +32,11 @@ pub fn server_of<'a>(word: &'a str) -> Result<ServerAddress<'a>, Incident<'a>>
     ensures endpoint { IfOk result (λ server. endpoint_of word.now ≡ Some (endpoint_value server.endpoint)) }
     ensures word { IfOk result (λ server. server.word ≡ word.entry) }
     ensures refused { IfErr result (λ incident.
-        (endpoint_of word.now ≡ None) × (incident.failure ≡ Address)) }
+        (endpoint_of word.now ≡ None) × (incident.failure.reason ≡ Address)) }
 {
     match Endpoint::parse(word.as_bytes()) {
         Some(endpoint) => Ok(ServerAddress { word, endpoint }),
-        None => Err(Failure::Address.in_word(word)),
+        None => Err(no_address().in_word(word)),
     }
 }
 
@@ -48,8 +58,7 @@ pub fn connection<'a>(
 
 /// Why no connection could be made.
 pub fn unconnected<'a>(server: ServerAddress<'a>, reason: io::Error) -> Incident<'a> {
-    Incident {
-        failure: Failure::Connect,
-        site: Site::Socket(server.word, reason),
-    }
+    Failure::of(Reason::Connect)
+        .at(Place::Address(server.word))
+        .because(reason)
 }

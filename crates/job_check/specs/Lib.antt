@@ -1,3 +1,4 @@
+pub mod Faults
 pub mod Listings
 pub mod Output
 pub mod Replaying

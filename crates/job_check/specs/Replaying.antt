@@ -4,8 +4,8 @@ use Rattle.std.specs.Io.KnownBytes.{Appends}
 use Rattle.sl_io.specs.Counts.{StopsReading, StopsWriting}
 use Rattle.sl_io.specs.Known.{AppendsBeginning}
 use Rattle.sl_io.specs.declared.faults.ReadFault.TheVariants as read
-use Rattle.incidents.specs.declared.faults.ReplayFault.{ReplayFault}
-use Rattle.incidents.specs.declared.faults.ReplayFault.TheVariants.{Stream, Script}
+use Rattle.job_check.specs.declared.replay_fault.ReplayFault.{ReplayFault}
+use Rattle.job_check.specs.declared.replay_fault.ReplayFault.TheVariants.{Stream, Script}
 use Rattle.sl_io.specs.declared.faults.StreamFault.TheVariants.{OutOfMemory, Read, Write}
 
 -- there is an output, and all of it is written

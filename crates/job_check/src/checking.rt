@@ -5,12 +5,14 @@ ghost use Rattle.job_check.specs.Listings.{listing_by};
 
 use crate::names::{FileLine, FileName, files_of};
 use command_line::CheckOptions;
-use incidents::{Failure, FileKind, Incident, kind_of};
+use incidents::{Failure, Incident};
 use job_base::{
     BegunFile, ConfiguredStations, FirstBytes, ReasonKeeper, Watched, config_at,
     is_output_terminal, is_terminal, size_of, times_of,
 };
-use record_check::{AllStations, Finding, ListingOptions, RecordCheck, Stations};
+use record_check::{
+    AllStations, FileKind, Finding, ListingOptions, RecordCheck, Stations, kind_of,
+};
 use sl_io::{Outer, StreamFault};
 use std::fs::File;
 use std::io::{self, Read};
@@ -65,12 +67,12 @@ fn check_named<'a, S: Stations>(
 ) -> Result<(), Incident<'a>> {
     let names = files_of(rt, words)?;
     let Ok(mut check) = RecordCheck::new(rt.alloc()) else {
-        return Err(Incident::from(Failure::OutOfMemory));
+        return Err(Incident::out_of_memory());
     };
     let first = check_each(rt, names, options, stations, &mut check)?;
     match list_streams(rt, listing_options(options), &mut check) {
         Ok(()) => first_of(first),
-        Err(fault) => Err(Incident::from(Failure::Check(fault))),
+        Err(fault) => Err(Incident::from(Failure::of(fault.reason()))),
     }
 }
 
@@ -123,7 +125,8 @@ fn check_file<'a, S: Stations>(
             if !is_alone {
                 tell_file(rt, &name, finding);
             }
-            Ok(Some(name.refused(finding, kind_at(finding, &first))))
+            let kind = kind_at(finding, &first);
+            Ok(Some(name.refused(rt.alloc(), finding, kind)))
         }
         Err(fault) => Err(name.broken(fault, reason)),
     }

@@ -4,12 +4,13 @@ ghost use Rattle.std.specs.Str.{IsUtf8};
 ghost use Rattle.std.specs.Io.KnownBytes.{Appends};
 ghost use Rattle.toml.specs.Parse.{parse_document};
 ghost use Rattle.config_explained.specs.Changes.{changes_text};
+ghost use Rattle.protocol.specs.declared.reason.Reason.TheVariants.{File};
 
 use crate::viewing::write_text;
 use catalog::Config;
 use config_explained::{Difference, changes_of, first_difference};
-use incidents::{Failure, Incident, Site};
-use job_base::{config_in, tell_unknown_keys, text_at};
+use incidents::{Failure, Incident, Place, Site};
+use job_base::{config_in, lines_of, open, tell_unknown_keys, text_in};
 use protocol::reason::Reason;
 use sl_io::{Outer, Sink, StreamFault};
 use std::alloc::Global;
@@ -43,7 +44,10 @@ fn write_difference<'a, W: Sink>(
     difference: Difference,
     out: &mut W,
 ) -> Result<(), StreamFault> {
-    let site = Site::Differing(path, difference);
+    let site = Site {
+        place: Place::File(path),
+        detail: lines_of(alloc, difference),
+    };
     match format!(in alloc; "{site}") {
         Ok(lines) => write_text(lines.as_bytes(), out),
         Err(_) => Err(StreamFault::OutOfMemory),
@@ -82,21 +86,33 @@ fn compare<'a>(
     tell_unknown_keys(rt, path, &new, new_text, is_strict)?;
     match write_all(rt, old, old_text, path, &new, new_text) {
         Ok(()) => Ok(()),
-        Err(fault) => Err(Failure::Check(fault).in_file(path)),
+        Err(fault) => Err(Failure::of(fault.reason()).in_file(path)),
     }
 }
 
+/// What is said of a word that is no address and no network, and of which no file can be read.
+fn nobody() -> Failure
+    ensures { result.reason ≡ File }
+{
+    Failure::by(
+        Reason::File,
+        Some("a word is no address and no network, and there is no such file"),
+    )
+    .allowing(
+        "an address as 10.0.0.7, a network as 10.0.0.0/8, or the file of another configuration",
+    )
+}
+
 /// A file that could not be opened, by a word that may have been meant for an address.
-fn unopened_who<'a>(incident: Incident<'a>) -> Incident<'a> {
-    match incident {
-        Incident {
-            failure: Failure::Of(Reason::File),
-            site: Site::Unopened(path, reason),
-        } => Incident {
-            failure: Failure::Who,
-            site: Site::Unopened(path, reason),
+fn unopened_who<'a>(incident: Incident<'a>) -> Incident<'a>
+    ensures { result.failure.reason ≡ incident.entry.failure.reason }
+{
+    match incident.failure.reason {
+        Reason::File => Incident {
+            failure: nobody(),
+            site: incident.site,
         },
-        other => other,
+        _ => incident,
     }
 }
 
@@ -109,8 +125,10 @@ pub fn write_changes<'a>(
     path: &'a str,
     is_strict: bool,
 ) -> Result<(), Incident<'a>> {
-    match text_at(rt, path) {
-        Ok(new_text) => compare(rt, old, old_text, path, new_text.as_slice(), is_strict),
-        Err(incident) => Err(unopened_who(incident)),
-    }
+    let file = match open(rt, path) {
+        Ok(file) => file,
+        Err(incident) => return Err(unopened_who(incident)),
+    };
+    let new_text = text_in(rt, path, file)?;
+    compare(rt, old, old_text, path, new_text.as_slice(), is_strict)
 }

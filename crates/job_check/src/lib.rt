@@ -6,10 +6,12 @@ mod checking;
 mod comparing;
 mod folders;
 mod names;
+mod replay_fault;
 mod replaying;
 mod viewing;
 
 pub use checking::check_files;
 pub use comparing::list_changes;
+pub use replay_fault::ReplayFault;
 pub use replaying::{ReplayStyle, replay, replay_files};
 pub use viewing::{list_holders, list_seen, list_station, view_file};

@@ -1,9 +1,9 @@
 //! The files of records that the words of the command line name.
 use crate::folders::{UnlistedFolder, files_below};
-use incidents::{Failure, FileKind, FoundFault, FoundFile, Incident, Site};
-use job_base::unopened;
+use incidents::{Failure, Incident, Place};
+use job_base::{refused_records, unopened};
 use protocol::reason::Reason;
-use record_check::Finding;
+use record_check::{FileKind, Finding};
 use shown_lines::ShownLine;
 use sl_io::StreamFault;
 use std::alloc::{AllocError, Global};
@@ -38,6 +38,14 @@ impl<'a> FileName<'a> {
         }
     }
 
+    /// Where it is.
+    fn into_place(self) -> Place<'a> {
+        match self {
+            FileName::Given(path) => Place::File(path),
+            FileName::Found(path) => Place::Below(path),
+        }
+    }
+
     /// Opens it.
     pub fn open(&self, rt: &HostRuntime) -> io::Result<File> {
         fs::open(rt, self.path())
@@ -52,51 +60,35 @@ impl<'a> FileName<'a> {
     }
 
     /// Something is wrong with what stands in it, which may be known for no file of records.
-    pub fn refused(self, finding: Finding, kind: Option<FileKind>) -> Incident<'a> {
-        match self {
-            FileName::Given(path) => Incident::of_records(path, finding, kind),
-            FileName::Found(path) => Incident {
-                failure: Failure::Records(finding.fault),
-                site: found(path, FoundFault::Record(finding, kind)),
-            },
-        }
+    pub fn refused(self, alloc: Global, finding: Finding, kind: Option<FileKind>) -> Incident<'a> {
+        refused_records(alloc, self.into_place(), finding, kind)
     }
 
     /// It could not be read to its end, or its lines could not be written.
     pub fn broken(self, fault: StreamFault, reason: Option<io::Error>) -> Incident<'a> {
         match self {
-            FileName::Given(path) => Failure::Check(fault).in_file(path).at_input(path, reason),
+            FileName::Given(path) => Failure::of(fault.reason())
+                .in_file(path)
+                .at_file(path, reason),
             FileName::Found(path) => found_broken(path, fault, reason),
         }
     }
 }
 
-/// A file of a folder, and what went wrong with it.
-fn found<'a>(path: String, fault: FoundFault) -> Site<'a> {
-    Site::Found(FoundFile { path, fault })
-}
-
 /// A file of a folder, or a folder in it, that could not be opened.
 fn found_unopened<'a>(path: String, reason: io::Error) -> Incident<'a> {
-    if reason.kind() == io::ErrorKind::OutOfMemory {
-        return Incident::from(Failure::OutOfMemory);
-    }
-    Incident {
-        failure: Failure::Of(Reason::File),
-        site: found(path, FoundFault::Device(reason)),
-    }
+    Failure::of(Reason::File).by_system(Place::Below(path), reason)
 }
 
 /// A file of a folder that could not be read to its end. If its lines could not be written, or for want of memory, it
 /// is not the file's fault.
 fn found_broken<'a>(path: String, fault: StreamFault, reason: Option<io::Error>) -> Incident<'a> {
-    let failure = Failure::Check(fault);
-    let site = match (fault, reason) {
-        (StreamFault::Read, Some(reason)) => found(path, FoundFault::Device(reason)),
-        (StreamFault::Read, None) => found(path, FoundFault::Unread),
-        _ => Site::Unnamed,
-    };
-    Incident { failure, site }
+    let failure = Failure::of(fault.reason());
+    match (fault, reason) {
+        (StreamFault::Read, Some(reason)) => failure.at(Place::Below(path)).because(reason),
+        (StreamFault::Read, None) => failure.at(Place::Below(path)),
+        _ => failure.at(Place::Nowhere),
+    }
 }
 
 /// What is wrong with one of several files, as standard error is told: `seedlinkd: 6 Length at record 17 of FILE`.
@@ -141,12 +133,12 @@ fn add_folder<'a>(
     folder: &'a str,
 ) -> Result<(), Incident<'a>> {
     let Ok(path) = String::from_str(rt.alloc(), folder) else {
-        return Err(Incident::from(Failure::OutOfMemory));
+        return Err(Incident::out_of_memory());
     };
     match files_below(rt, path) {
         Ok(files) => match add_files(names, files) {
             Ok(()) => Ok(()),
-            Err(_) => Err(Incident::from(Failure::OutOfMemory)),
+            Err(_) => Err(Incident::out_of_memory()),
         },
         Err(fault) => Err(unlisted(fault)),
     }
@@ -156,7 +148,7 @@ fn add_folder<'a>(
 fn add_file<'a>(names: &mut Vec<FileName<'a>>, word: &'a str) -> Result<(), Incident<'a>> {
     match names.push(FileName::Given(word)) {
         Ok(()) => Ok(()),
-        Err(_) => Err(Incident::from(Failure::OutOfMemory)),
+        Err(_) => Err(Incident::out_of_memory()),
     }
 }
 

@@ -7,12 +7,13 @@ ghost use Rattle.event_script.specs.Script.{is_line_feed};
 ghost use Rattle.job_check.specs.Output.{output_after, replayed, written_of};
 ghost use Rattle.job_check.specs.Replaying.{IfScript, LeavesReader, LeavesWriter, WritesAll, WritesBeginning};
 ghost use Rattle.event_script.specs.declared.fault.ScriptFault.TheVariants.{Script as ScriptIsNone};
-ghost use Rattle.incidents.specs.declared.faults.ReplayFault.TheVariants.{Stream};
+ghost use Rattle.job_check.specs.declared.replay_fault.ReplayFault.TheVariants.{Stream};
 ghost use Rattle.sl_io.specs.declared.faults.StreamFault.TheVariants.{Write};
 
+use crate::replay_fault::ReplayFault;
 use catalog::Config;
 use event_script::{ScriptError, ScriptFault, dialogue_of, events_of, output_of};
-use incidents::{Failure, Incident, ReplayFault};
+use incidents::Incident;
 use job_base::{ReasonKeeper, config_at, open};
 use server_core::{Event, Handed, run};
 use sl_io::{Outer, Sink, Source, StreamFault, read_all, write_all};
@@ -163,8 +164,8 @@ fn replay_open<'a, F: Read + Drop>(
     match write_output(rt, style, config, &mut file) {
         Ok(()) => Ok(()),
         Err(fault) => {
-            let incident = Failure::Replay(fault).in_file(script);
-            Err(incident.at_input(script, file.into_inner().into_reason()))
+            let reason = file.into_inner().into_reason();
+            Err(fault.in_script(script).at_file(script, reason))
         }
     }
 }

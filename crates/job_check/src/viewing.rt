@@ -21,6 +21,7 @@ use command_line::ViewOptions;
 use config_explained::{Network, holder_of, holders_of, parts_of, remarks, seen_by};
 use incidents::{Failure, Incident};
 use job_base::{config_in, tell_unknown_keys, text_at};
+use protocol::reason::Reason;
 use shown_lines::ShownText;
 use sl_io::{Outer, Sink, StreamFault, write_all};
 use std::alloc::Global;
@@ -167,24 +168,16 @@ fn tell_remarks(rt: &HostRuntime, config: &Config, text: &[u8]) -> Result<(), St
 }
 
 /// Writes all stations with whom they are open to, and then names what the lists don't look like.
-fn write_all_stations(rt: &HostRuntime, config: &Config, text: &[u8]) -> Result<(), Failure> {
+fn write_all_stations(rt: &HostRuntime, config: &Config, text: &[u8]) -> Result<(), StreamFault> {
     let mut out = Outer::new(io::writer(rt));
-    match list_holders(rt.alloc(), config, text, &mut out) {
-        Ok(()) => match tell_remarks(rt, config, text) {
-            Ok(()) => Ok(()),
-            Err(fault) => Err(Failure::Check(fault)),
-        },
-        Err(fault) => Err(Failure::Check(fault)),
-    }
+    list_holders(rt.alloc(), config, text, &mut out)?;
+    tell_remarks(rt, config, text)
 }
 
 /// Writes what an address sees.
-fn write_seen(rt: &HostRuntime, config: &Config, address: Ipv4Addr) -> Result<(), Failure> {
+fn write_seen(rt: &HostRuntime, config: &Config, address: Ipv4Addr) -> Result<(), StreamFault> {
     let mut out = Outer::new(io::writer(rt));
-    match list_seen(rt.alloc(), config, address, &mut out) {
-        Ok(()) => Ok(()),
-        Err(fault) => Err(Failure::Check(fault)),
-    }
+    list_seen(rt.alloc(), config, address, &mut out)
 }
 
 /// Writes how much of a network sees each station.
@@ -193,30 +186,46 @@ fn write_parts(
     config: &Config,
     text: &[u8],
     network: Network,
-) -> Result<(), Failure> {
+) -> Result<(), StreamFault> {
     let mut out = Outer::new(io::writer(rt));
-    match list_parts(rt.alloc(), config, text, network, &mut out) {
-        Ok(()) => Ok(()),
-        Err(fault) => Err(Failure::Check(fault)),
-    }
+    list_parts(rt.alloc(), config, text, network, &mut out)
 }
 
-/// Writes who may use the station that a word names, `NET_STA`. It fails if there is none.
+/// Writes who may use the station that a word names, `NET_STA`. Whether there is one.
 fn write_station(
     rt: &HostRuntime,
     config: &Config,
     text: &[u8],
     word: &str,
-) -> Result<(), Failure> {
+) -> Result<bool, StreamFault> {
     let Some((network, code)) = word.split_once('_') else {
-        return Err(Failure::Station);
+        return Ok(false);
     };
     let mut out = Outer::new(io::writer(rt));
     let (network, code) = (network.as_bytes(), code.as_bytes());
-    match list_station(rt.alloc(), config, text, network, code, &mut out) {
+    list_station(rt.alloc(), config, text, network, code, &mut out)
+}
+
+/// What is said of a word that names no station of the configuration.
+fn no_station() -> Failure {
+    Failure::by(
+        Reason::UnknownStation,
+        Some("the configuration has no such station"),
+    )
+}
+
+/// The same. It fails if there is none.
+fn view_station<'a>(
+    rt: &HostRuntime,
+    options: &ViewOptions<'a>,
+    config: &Config,
+    text: &[u8],
+    word: &'a str,
+) -> Result<(), Incident<'a>> {
+    match write_station(rt, config, text, word) {
         Ok(true) => Ok(()),
-        Ok(false) => Err(Failure::Station),
-        Err(fault) => Err(Failure::Check(fault)),
+        Ok(false) => Err(no_station().in_word(word)),
+        Err(fault) => Err(Failure::of(fault.reason()).in_file(options.config)),
     }
 }
 
@@ -227,17 +236,16 @@ fn write_view<'a>(
     config: &Config,
     text: &[u8],
 ) -> Result<(), Incident<'a>> {
-    let (written, word) = match asked_in(options) {
-        ViewAsked::Everything => (write_all_stations(rt, config, text), None),
-        ViewAsked::Address(address) => (write_seen(rt, config, address), None),
-        ViewAsked::Network(network) => (write_parts(rt, config, text, network), None),
-        ViewAsked::Station(word) => (write_station(rt, config, text, word), Some(word)),
+    let written = match asked_in(options) {
+        ViewAsked::Everything => write_all_stations(rt, config, text),
+        ViewAsked::Address(address) => write_seen(rt, config, address),
+        ViewAsked::Network(network) => write_parts(rt, config, text, network),
+        ViewAsked::Station(word) => return view_station(rt, options, config, text, word),
         ViewAsked::Other(path) => return write_changes(rt, config, text, path, options.is_strict),
     };
-    match (written, word) {
-        (Ok(()), _) => Ok(()),
-        (Err(Failure::Station), Some(word)) => Err(Failure::Station.in_word(word)),
-        (Err(failure), _) => Err(failure.in_file(options.config)),
+    match written {
+        Ok(()) => Ok(()),
+        Err(fault) => Err(Failure::of(fault.reason()).in_file(options.config)),
     }
 }
 

@@ -1,5 +1,5 @@
 pub mod Aligning
-pub mod Feeding
+pub mod Faults
 pub mod Handing
 pub mod Judging
 pub mod Skipping

@@ -10,8 +10,9 @@ ghost use Rattle.std.specs.Prelude.{◌≡◌, ◌+◌, ◌-◌, ◌^◌, ◌/�
 ghost use Rattle.feeder.specs.Sending.{whole_part};
 ghost use Rattle.job_feed.specs.Handing.{CountsBeginning, counted_part};
 
-use crate::feeding::{await_end, feed_records};
-use incidents::Failure;
+use crate::fault::FeedFault;
+use crate::feeding::await_end;
+use feeder::{SendFault, send};
 use sl_io::{DeviceFault, Outer, Sink, Source};
 use std::io::{ErrorKind, Write};
 use std::net::{Shutdown, TcpStream};
@@ -51,14 +52,14 @@ impl SentFeed {
     /// Waits for the server's end. If it comes in order, the server has read everything: then the answer is how many
     /// records were sent. It fails with 43 if the connection was reset, or if the server ended it before it had read
     /// to the end, and with 52 if the server answered something.
-    pub fn wait(self) -> Result<u64, Failure> {
+    pub fn wait(self) -> Result<u64, FeedFault> {
         let SentFeed { stream, count } = self;
         let mut server = Outer::new(stream);
         await_end(&mut server)?;
         if is_closed(&server.into_inner()) {
             Ok(count)
         } else {
-            Err(Failure::Untaken)
+            Err(FeedFault::Untaken)
         }
     }
 }
@@ -124,8 +125,8 @@ impl<T: Write + Drop> Feed<T> {
     }
 
     /// Sends the whole records that are left of a reader, and counts the bytes that the connection takes, also at a
-    /// fault. It fails as `feed_records` does.
-    pub fn send<S: Source>(&mut self, records: &mut S) -> Result<(), Failure>
+    /// fault. It fails as `feeder::send` does.
+    pub fn send<S: Source>(&mut self, records: &mut S) -> Result<(), SendFault>
         ensures all { OnOk result (IfSome (S.left records.old) (λ bytes.
             IfSome (counted_part self.old.taken (T.contents self.old.stream)) (λ _.
             self.new.taken ≡ self.old.taken + length (whole_part bytes)))) }
@@ -134,7 +135,7 @@ impl<T: Write + Drop> Feed<T> {
             CountsBeginning self.old.taken self.new.taken before
             (counted_part self.new.taken (T.contents self.new.stream)) (whole_part bytes))) }
     {
-        feed_records(records, self)?;
+        send(records, self)?;
         Ok(())
     }
 
@@ -148,13 +149,13 @@ impl<T: Write + Drop> Feed<T> {
 
 impl Feed<TcpStream> {
     /// Shuts the sending half. It fails with 43 if the server ended the connection before.
-    pub fn shut(self) -> Result<SentFeed, Failure>
+    pub fn shut(self) -> Result<SentFeed, FeedFault>
         ensures { IfOk result (λ sent. sent.count ≡ self.taken / 512) }
     {
         let count = self.records();
         let Feed { stream, .. } = self;
         if is_over(&stream) || stream.shutdown(Shutdown::Write).is_err() {
-            return Err(Failure::Untaken);
+            return Err(FeedFault::Untaken);
         }
         Ok(SentFeed { stream, count })
     }

@@ -14,12 +14,12 @@ use crate::sent::{FileRecord, SentRecords};
 use crate::skipping::{bytes_before, pass_over};
 use command_line::FeedOptions;
 use feeder::SendFault;
-use incidents::{Failure, FileKind, Incident, Site};
+use incidents::{Failure, Incident, Place};
 use job_base::{
     ConfiguredStations, ReasonKeeper, ServerAddress, Watched, checked_config_at, connection,
-    is_terminal, open, server_of, size_of,
+    is_terminal, open, refused_records, server_of, size_of,
 };
-use record_check::{AllStations, FeedTally, Stations};
+use record_check::{AllStations, FeedTally, FileKind, Stations};
 use sl_io::{DeviceFault, Outer};
 use std::fs::File;
 use std::io::Read;
@@ -115,27 +115,32 @@ fn send_input<'a, S: Stations>(
     let mut records = Outer::new(judged);
     let outcome = match passed {
         Ok(()) => feed.send(&mut records),
-        Err(_) => Err(Failure::Send(SendFault::Read)),
+        Err(_) => Err(SendFault::Read),
     };
     let (watched, is_over, kind) = records.into_inner().into_parts();
     let reason = watched.end().into_reason();
     progress.reach(first, kind, feed.records());
     match outcome {
         Ok(()) => Ok(()),
-        Err(_) if is_over => Err(given_up(&progress.tally, first.file, kind)),
-        Err(failure) => Err(
-            failure
+        Err(_) if is_over => Err(given_up(rt, &progress.tally, first.file, kind)),
+        Err(fault) => Err(
+            Failure::of(fault.reason())
                 .in_feed(first.file, server)
-                .at_input(first.file, reason),
+                .at_file(first.file, reason),
         ),
     }
 }
 
 /// What ends a feed that is strict: the first of sixteen records of a file that can't be read.
-fn given_up<'a>(tally: &FeedTally, file: &'a str, kind: Option<FileKind>) -> Incident<'a> {
+fn given_up<'a>(
+    rt: &HostRuntime,
+    tally: &FeedTally,
+    file: &'a str,
+    kind: Option<FileKind>,
+) -> Incident<'a> {
     match tally.lost() {
-        Some(lost) => Incident::of_records(file, finding_of(&lost), kind),
-        None => Failure::Send(SendFault::Read).in_file(file),
+        Some(lost) => refused_records(rt.alloc(), Place::File(file), finding_of(&lost), kind),
+        None => Failure::of(SendFault::Read.reason()).in_file(file),
     }
 }
 
@@ -177,7 +182,7 @@ fn send_over<'a, S: Stations>(
     send_each(rt, &mut feed, rules, progress, others, server)?;
     match feed.shut() {
         Ok(feed) => Ok(feed),
-        Err(failure) => Err(failure.in_feed(first.file, server)),
+        Err(fault) => Err(fault.failure().in_feed(first.file, server)),
     }
 }
 
@@ -252,10 +257,7 @@ fn send_and_wait<'a, S: Stations>(
     };
     match feed.wait() {
         Ok(_) => Ok(()),
-        Err(failure) => Err(Incident {
-            failure,
-            site: Site::Server(server),
-        }),
+        Err(fault) => Err(fault.failure().at(Place::Address(server))),
     }
 }
 

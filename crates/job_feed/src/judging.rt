@@ -4,8 +4,7 @@ ghost use Rattle.job_feed.specs.Judging.{row_part};
 
 use crate::aligned::{Aligned, Stretch};
 use crate::lines::FeedLine;
-use incidents::{FileKind, kind_of};
-use record_check::{FeedTally, Finding, RefusedRecord, Stations};
+use record_check::{FeedTally, FileKind, Finding, RefusedRecord, Stations, kind_of};
 use std::io::{self, ErrorKind, Read};
 
 /// How many bytes sixteen records have.

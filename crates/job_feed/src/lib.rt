@@ -2,6 +2,7 @@
 #![tactic(auto)]
 
 mod aligned;
+mod fault;
 mod feed;
 mod feeding;
 mod feeds;
@@ -12,8 +13,9 @@ mod sent;
 mod skipping;
 
 pub use aligned::{Aligned, Stretch, first_beginning};
+pub use fault::FeedFault;
 pub use feed::SentFeed;
-pub use feeding::{await_end, feed_records};
+pub use feeding::await_end;
 pub use feeds::{FeedProgress, FeedRules, feed_files, send_files};
 pub use lines::FeedLine;
 pub use sent::{FileRecord, SentRecords};

@@ -1,7 +1,6 @@
 //! What a user is told of the records of a feed.
 use crate::aligned::Stretch;
-use incidents::FileKind;
-use record_check::RefusedRecord;
+use record_check::{FileKind, RefusedRecord};
 use shown_lines::ShownLine;
 use std::fmt::{self, Display, Formatter, Write};
 

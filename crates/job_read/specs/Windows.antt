@@ -3,13 +3,13 @@ use Rattle.std.specs.Prelude.{◌≡◌, ◌⊎◌, Bool, true, false, ℕ, ℤ,
 use Rattle.std.specs.Prelude.{option_and_then}
 use Rattle.std.specs.Borrow.{Bor}
 use Rattle.protocol.specs.Time.{time_of}
-use Rattle.sl_time.specs.Parsed.{parsed}
+use Rattle.sl_time.specs.Parsed.{parsed, time_reason}
 use Rattle.sl_time.specs.declared.command.TimeFault.{TimeFault}
 use Rattle.sl_time.specs.Spelled.{command_text}
 use Rattle.slreader.specs.Words.{WindowValue}
 use Rattle.slreader.specs.Words.WindowValue.{Following, Held, Between}
 use Rattle.incidents.specs.declared.failure.Failure.{Failure}
-use Rattle.incidents.specs.declared.failure.Failure.TheVariants.{Moment, OutOfMemory}
+use Rattle.protocol.specs.declared.reason.Reason.TheVariants.{OutOfMemory}
 
 -- The text is the one that stands for the word, and spells a time.
 abbrev pub IsMoment : List ℕ → List ℕ → Type 0
@@ -18,8 +18,8 @@ IsMoment word text = (text ≡ command_text word) × (is_some (time_of text) ≡
 -- The word spells no time, for that reason; or there was no memory for it.
 abbrev pub IsNoMoment : List ℕ → Failure → Type 0
 IsNoMoment word failure =
-    (failure ≡ OutOfMemory)
-    ⊎ ((fault : TimeFault) × (failure ≡ Moment fault) × (parsed (command_text word) ≡ Err fault))
+    (failure.reason ≡ OutOfMemory)
+    ⊎ ((fault : TimeFault) × (failure.reason ≡ time_reason fault) × (parsed (command_text word) ≡ Err fault))
 
 -- The text is that of the word, or there is neither.
 abbrev pub IsMomentOf : Option (Bor (List ℕ)) → Option (List ℕ) → Type 0

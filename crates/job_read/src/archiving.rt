@@ -1,7 +1,6 @@
 //! Records that are read into an archive.
 ghost use Rattle.std.specs.Prelude.{◌≡◌, None};
 
-use crate::clock::milliseconds;
 use crate::moment::Moment;
 use crate::notices::{ErrorTeller, Notice, Teller};
 use crate::returns::LastNumbers;
@@ -9,7 +8,8 @@ use crate::torn::tell_torn;
 use crate::unplaced::UnplacedCount;
 use continued_files::{ContinuedFiles, FileLength, FolderFault, RecordFiles, Unnamed};
 use disk_files::{ContinuedOutput, DiskFiles, FileFailure, FilePlace, ONE_FILE};
-use incidents::{Failure, FoundFault, FoundFile, Incident, Site};
+use files::milliseconds;
+use incidents::{Detail, Incident, Place, Site};
 use job_base::{descriptor_limit, unopened};
 use reader_run::{Gathered, Nowhere, RecordSink, SinkFault};
 use record_archive::{Archive, ArchiveFault, StationCodes, StationLocks, TopFault, lock_stations};
@@ -91,7 +91,7 @@ pub fn archive_at<'r, 'a: 'r>(
     moment: &'r Moment,
 ) -> Result<ToldArchive<'r>, Incident<'a>> {
     let Ok(stations) = stations_of(rt.alloc(), wants) else {
-        return Err(Incident::from(Failure::OutOfMemory));
+        return Err(Incident::out_of_memory());
     };
     let locks = locks_at(rt, top, &stations)?;
     let place = FilePlace::Below(top);
@@ -129,15 +129,23 @@ fn added_to_by_another() -> io::Error {
     )
 }
 
+/// A file that the system refused, for its reason.
+pub fn site_at<'a>(path: &'a str, reason: io::Error) -> Site<'a> {
+    Site {
+        place: Place::File(path),
+        detail: Detail::System(reason),
+    }
+}
+
 /// A file below an archive that took no more; the folder of that if the file is not known.
 pub fn site_of<'a>(failure: FileFailure, top: &'a str) -> Site<'a> {
     let FileFailure { path, reason } = failure;
     match path {
-        Some(path) => Site::Found(FoundFile {
-            path,
-            fault: FoundFault::Device(reason),
-        }),
-        None => Site::Unwritten(top, reason),
+        Some(path) => Site {
+            place: Place::Below(path),
+            detail: Detail::System(reason),
+        },
+        None => site_at(top, reason),
     }
 }
 

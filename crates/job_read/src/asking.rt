@@ -4,9 +4,9 @@ ghost use Rattle.std.specs.Prelude.{◌≡◌};
 ghost use Rattle.std.specs.Io.{ReadsAtMost};
 ghost use Rattle.job_read.specs.Asking.{left_after};
 
-use crate::clock::milliseconds;
 use crate::inlet::Inlet;
 use crate::patience::{Patience, shorter};
+use files::milliseconds;
 use std::cell::Cell;
 use std::io::{self, ErrorKind, Read};
 

@@ -8,16 +8,17 @@ ghost use Rattle.job_read.specs.Endings.{goes_on};
 ghost use Rattle.job_read.specs.Places.{place_after};
 
 use crate::asking::RenewedReader;
-use crate::endings::unlisted;
+use crate::endings::{TransferFault, unlisted};
 use crate::inlet::Inlet;
 use crate::places::Places;
 use crate::reading::Reading;
 use crate::sides::{AnswerCounter, CommandWriter};
-use incidents::{Failure, Incident, Site};
+use incidents::{Failure, Incident, Place};
 use job_base::{ServerAddress, connection, unconnected};
-use ports_socket::notice_silence;
+use protocol::reason::Reason;
 use reader_run::{ListingFault, Servers};
 use sl_io::Outer;
+use socket_options::notice_silence;
 use std::io::{self, ErrorKind};
 use std::net::{SocketAddr, TcpStream};
 use std::time::Duration;
@@ -51,18 +52,18 @@ impl<'r, 'a, 'w> ServersInTurn<'r, 'a, 'w> {
     pub fn server(&self) -> Result<ServerAddress<'a>, Incident<'a>> {
         match self.reading.servers.get(self.places.place()) {
             Some(server) => Ok(*server),
-            None => Err(Incident::from(Failure::Connect)),
+            None => Err(Incident::from(Failure::of(Reason::Connect))),
         }
     }
 
     /// The turn passes to the next server after a failure, unless that ends the reading.
     fn go_on_after(&mut self, incident: Incident<'a>) -> Result<(), Incident<'a>>
-        ensures next { OnOk result ((goes_on incident.entry.failure self.old.places.place self.old.places.count
+        ensures next { OnOk result ((goes_on incident.entry.failure.reason self.old.places.place self.old.places.count
             self.old.reading.now.is_retried ≡ true) × (self.new.places ≡ record self.old.places {
               place = place_after self.old.places.place self.old.places.count;
             })) }
         ensures ended { IfErr result (λ ended. (ended ≡ incident.entry)
-            × (goes_on incident.entry.failure self.old.places.place self.old.places.count
+            × (goes_on incident.entry.failure.reason self.old.places.place self.old.places.count
             self.old.reading.now.is_retried ≡ false)) }
     {
         self.reading.pass_over(self.rt, incident, &self.places)?;
@@ -106,10 +107,12 @@ fn connection_within<'a>(
     let address = SocketAddr::V4(server.endpoint.socket_address());
     match TcpStream::connect_timeout(rt, &address, limit) {
         Ok(stream) => Ok(stream),
-        Err(reason) if reason.kind() == ErrorKind::TimedOut => Err(Incident {
-            failure: Failure::Silent,
-            site: Site::Socket(server.word, reason),
-        }),
+        Err(reason) if reason.kind() == ErrorKind::TimedOut => Err(
+            TransferFault::Silent
+                .failure()
+                .at(Place::Address(server.word))
+                .because(reason),
+        ),
         Err(reason) => Err(unconnected(server, reason)),
     }
 }
@@ -148,7 +151,7 @@ impl<'r, 'a, 'w> Servers for ServersInTurn<'r, 'a, 'w> {
                 Err(incident) => self.go_on_after(incident)?,
             }
         }
-        Err(Incident::from(Failure::Connect))
+        Err(Incident::from(Failure::of(Reason::Connect)))
     }
 
     fn pass_over(
@@ -163,12 +166,12 @@ impl<'r, 'a, 'w> Servers for ServersInTurn<'r, 'a, 'w> {
             return Ok(());
         }
         let patience = &self.reading.patience;
-        let failure = unlisted(
+        let fault = unlisted(
             fault,
             reader.into_inner().is_answered(),
             patience.is_fault(),
         );
-        let incident = failure.at_server(self.server()?.word);
+        let incident = fault.failure().at_server(self.server()?.word);
         if patience.is_over() {
             // Nothing more comes of the window: the reading is at its end.
             return Err(incident);

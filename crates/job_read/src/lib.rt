@@ -4,7 +4,6 @@
 
 mod archiving;
 mod asking;
-mod clock;
 mod connections;
 mod course;
 mod endings;
@@ -15,6 +14,7 @@ mod keep_time;
 mod line;
 mod moment;
 mod notices;
+mod part_texts;
 mod patience;
 mod places;
 mod reading;

@@ -5,7 +5,7 @@ ghost use Rattle.job_read.specs.Asking.{is_told};
 use crate::archiving::{Lasting, WholeFile, archive_at, at_archive, mend_end, output_at};
 use crate::asking::Renewal;
 use crate::connections::ServersInTurn;
-use crate::endings::goes_on;
+use crate::endings::{TransferFault, goes_on};
 use crate::following::follow_any;
 use crate::inlet::Inlet;
 use crate::moment::Moment;
@@ -17,7 +17,7 @@ use crate::wants::{wants_of, wants_text};
 use crate::windows::Moments;
 use command_line::ReadOptions;
 use continued_files::FileLength;
-use incidents::{Failure, Incident, Site};
+use incidents::{Failure, Incident, Place, Site};
 use job_base::{
     ErrorOutput, ReasonKeeper, ServerAddress, server_of, tell_incident, times_of, unopened,
 };
@@ -37,7 +37,7 @@ fn servers_of<'a>(alloc: Global, word: &'a str) -> Result<Vec<ServerAddress<'a>>
     for part in word.split(',') {
         let server = server_of(part)?;
         if servers.push(server).is_err() {
-            return Err(Incident::from(Failure::OutOfMemory));
+            return Err(Incident::out_of_memory());
         }
     }
     Ok(servers)
@@ -77,12 +77,12 @@ impl<'a> Reading<'a, '_> {
         incident: Incident<'a>,
         places: &Places,
     ) -> Result<(), Incident<'a>>
-        ensures passed { OnOk result (goes_on incident.entry.failure places.now.place places.now.count
+        ensures passed { OnOk result (goes_on incident.entry.failure.reason places.now.place places.now.count
             self.now.is_retried ≡ true) }
         ensures ended { IfErr result (λ ended. (ended ≡ incident.entry)
-            × (goes_on incident.entry.failure places.now.place places.now.count self.now.is_retried ≡ false)) }
+            × (goes_on incident.entry.failure.reason places.now.place places.now.count self.now.is_retried ≡ false)) }
     {
-        if !goes_on(incident.failure, places, self.is_retried) {
+        if !goes_on(incident.failure.reason, places, self.is_retried) {
             return Err(incident);
         }
         tell_incident(rt, incident, self.is_verbose);
@@ -98,10 +98,11 @@ fn opened_to_add<'a>(rt: &HostRuntime, path: &'a str) -> Result<File, Incident<'
     options.create(true);
     match options.open(rt, path) {
         Ok(file) => Ok(file),
-        Err(reason) => Err(Incident {
-            failure: Failure::Of(Reason::File),
-            site: Site::Unopened(path, reason),
-        }),
+        Err(reason) => Err(
+            Failure::of(Reason::File)
+                .at(Place::File(path))
+                .because(reason),
+        ),
     }
 }
 
@@ -127,7 +128,7 @@ fn list_on<'a, O: Sink + Drop, P: RecordSink + Lasting>(
 ) -> Result<(), Incident<'a>> {
     match tally_after(rt.alloc(), &reading.wants, &state) {
         Ok(mut tally) => list_after(rt, reading, &mut tally, state, output, out, records),
-        Err(AllocError) => Err(Incident::from(Failure::OutOfMemory)),
+        Err(AllocError) => Err(Incident::out_of_memory()),
     }
 }
 
@@ -176,9 +177,10 @@ fn met_at<'a>(
     site: Option<Site<'a>>,
 ) -> Incident<'a> {
     match server {
-        Ok(server) => Failure::Packets(fault)
+        Ok(server) => TransferFault::Listing(fault)
+            .failure()
             .at_server(server.word)
-            .at_state(site),
+            .at_site(site),
         Err(incident) => incident,
     }
 }
@@ -261,10 +263,10 @@ fn list_and_append<'a>(
     let mut records = Gathered::new(rt.alloc(), file);
     match list_on(rt, reading, state, Some(same), lines, &mut records) {
         Ok(()) => Ok(()),
-        Err(incident) => Err(incident.at_output(
-            path,
-            records.into_sink().into_inner().into_reason(),
-        )),
+        Err(incident) => {
+            let reason = records.into_sink().into_inner().into_reason();
+            Err(incident.at_file(path, reason))
+        }
     }
 }
 
@@ -279,10 +281,10 @@ fn list_and_go_on<'a>(
     let lock = locked_output(rt, path)?;
     state.name_output(rt, path)?;
     let Ok(lengths) = state.lengths(rt.alloc()) else {
-        return Err(Incident::from(Failure::OutOfMemory));
+        return Err(Incident::out_of_memory());
     };
     let Ok(numbers) = LastNumbers::new(rt.alloc(), &reading.wants, state.before(), false) else {
-        return Err(Incident::from(Failure::OutOfMemory));
+        return Err(Incident::out_of_memory());
     };
     let mut records = output_at(rt, path, lengths, numbers, &reading.moment);
     let lines = Outer::new(io::writer(rt));
@@ -290,7 +292,7 @@ fn list_and_go_on<'a>(
     drop_file(lock);
     match read {
         Ok(()) => Ok(()),
-        Err(incident) => Err(incident.at_output(path, records.take_reason())),
+        Err(incident) => Err(incident.at_file(path, records.take_reason())),
     }
 }
 
@@ -336,7 +338,7 @@ fn numbers_in<'a>(
     };
     match LastNumbers::new(alloc, &reading.wants, state.before(), true) {
         Ok(numbers) => Ok(numbers),
-        Err(_) => Err(Incident::from(Failure::OutOfMemory)),
+        Err(_) => Err(Incident::out_of_memory()),
     }
 }
 
@@ -350,7 +352,7 @@ fn lengths_in<'a>(
     };
     match state.lengths(alloc) {
         Ok(lengths) => Ok(Some(lengths)),
-        Err(_) => Err(Incident::from(Failure::OutOfMemory)),
+        Err(_) => Err(Incident::out_of_memory()),
     }
 }
 
@@ -383,7 +385,7 @@ fn state_in<'a>(
     };
     match Box::new(rt.alloc(), StateFile::open(rt, path)?) {
         Ok(file) => Ok(Some(file)),
-        Err(_) => Err(Incident::from(Failure::OutOfMemory)),
+        Err(_) => Err(Incident::out_of_memory()),
     }
 }
 

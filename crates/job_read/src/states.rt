@@ -1,9 +1,9 @@
 //! The file in which a reader keeps how far it is, and when it does.
 ghost use Rattle.std.specs.Prelude.{◌≡◌, None};
 ghost use Rattle.sl_io.specs.Counts.{CountsFailure};
+ghost use Rattle.protocol.specs.declared.reason.Reason.TheVariants.{State};
 
-use crate::archiving::{Lasting, site_of};
-use crate::clock::milliseconds;
+use crate::archiving::{Lasting, site_at, site_of};
 use crate::inlet::Inlet;
 use crate::keep_time::{EVERY, KeepTime, keep_time};
 use crate::moment::Moment;
@@ -11,14 +11,14 @@ use crate::patience::Patience;
 use crate::torn::tell_doubled;
 use continued_files::FileLength;
 use disk_files::{FileFailure, ONE_FILE};
-use incidents::{Failure, Incident, Site, StateRefusal};
-use job_base::{place_of, replace};
-use reader_run::{KeepFault, Keeper, ListingFault, RecordSink};
+use files::{LockFault, lock_at, milliseconds, place_of, replace, text_in};
+use incidents::{Failure, Incident, Place, Site};
+use protocol::reason::Reason;
+use reader_run::{KeepFault, Keeper, RecordSink};
 use reader_state::{KeptState, StateFault, read_doubled, read_state, write_state};
-use sl_io::{Outer, ReadFault, read_all};
 use slreader::{LastPacket, Tally, Want};
 use std::alloc::{AllocError, Global};
-use std::fs::{File, OpenOptions, TryLockError};
+use std::fs::File;
 use std::io::ErrorKind;
 use std::{fs, io};
 
@@ -53,7 +53,7 @@ impl<'a> StateFile<'a> {
         let before = state_at(rt, place.as_str(), path)?;
         match StateFile::of(rt.alloc(), path, place, lock, before) {
             Ok(file) => Ok(file),
-            Err(_) => Err(Incident::from(Failure::OutOfMemory)),
+            Err(_) => Err(Incident::out_of_memory()),
         }
     }
 
@@ -101,14 +101,15 @@ impl<'a> StateFile<'a> {
             Err(reason) => return Err(job_base::unopened(output, reason)),
         };
         if self.before.put_file(rt.alloc(), ONE_FILE, count).is_err() {
-            return Err(Incident::from(Failure::OutOfMemory));
+            return Err(Incident::out_of_memory());
         }
         match self.write(rt) {
             Ok(()) => Ok(()),
-            Err(reason) => Err(Incident {
-                failure: Failure::Packets(ListingFault::State),
-                site: Site::Unwritten(self.path, reason),
-            }),
+            Err(reason) => Err(
+                Failure::of(Reason::State)
+                    .at(Place::File(self.path))
+                    .because(reason),
+            ),
         }
     }
 
@@ -179,26 +180,12 @@ fn locked<'a>(
     text: &'static str,
 ) -> Result<File, Incident<'a>> {
     let Ok(name) = format!(in rt.alloc(); "{place}.lock") else {
-        return Err(Incident::from(Failure::OutOfMemory));
+        return Err(Incident::out_of_memory());
     };
-    match place_of(rt, name.as_str()) {
-        Ok(_) => {}
-        Err(reason) => return Err(unopened(path, reason)),
-    }
-    let opened = OpenOptions::new()
-        .write(true)
-        .create(true)
-        .open(rt, name.as_str());
-    let lock = match opened {
-        Ok(lock) => lock,
-        Err(reason) => return Err(unopened(path, reason)),
-    };
-    match lock.try_lock() {
-        Ok(()) => Ok(lock),
-        Err(TryLockError::WouldBlock) => {
-            Err(unopened(path, io::Error::new(ErrorKind::ResourceBusy, text)))
-        }
-        Err(TryLockError::Error(reason)) => Err(unopened(path, reason)),
+    match lock_at(rt, name.as_str()) {
+        Ok(lock) => Ok(lock),
+        Err(LockFault::Busy) => Err(unopened(path, io::Error::new(ErrorKind::ResourceBusy, text))),
+        Err(LockFault::Refused(reason)) => Err(unopened(path, reason)),
     }
 }
 
@@ -232,15 +219,28 @@ fn said_in(alloc: Global, text: &[u8]) -> Result<(KeptState, bool), StateFault> 
     }
 }
 
+/// What is said of a state that can't be opened, or not be read to its end.
+fn unread() -> Failure
+    ensures { result.reason ≡ State }
+{
+    Failure::by(Reason::State, Some("the file with the state can't be read"))
+}
+
+/// What is said of a file whose text is not a state.
+fn invalid() -> Failure
+    ensures { result.reason ≡ State }
+{
+    Failure::by(
+        Reason::State,
+        Some(
+            "the file with the state is not in lines of a network, a station, a number and an end",
+        ),
+    )
+}
+
 /// Why a state, that a word names, was not opened.
 fn unopened<'a>(path: &'a str, reason: io::Error) -> Incident<'a> {
-    if reason.kind() == ErrorKind::OutOfMemory {
-        return Incident::from(Failure::OutOfMemory);
-    }
-    Incident {
-        failure: Failure::State(StateRefusal::Unread),
-        site: Site::Unopened(path, reason),
-    }
+    unread().by_system(Place::File(path), reason)
 }
 
 /// What a state says; nothing if it is not there.
@@ -253,16 +253,10 @@ fn state_at<'a>(rt: &HostRuntime, place: &str, path: &'a str) -> Result<KeptStat
 }
 
 /// What a state says whose file is open.
-fn state_in<'a, F: io::Read + Drop>(
-    rt: &HostRuntime,
-    file: F,
-    path: &'a str,
-) -> Result<KeptState, Incident<'a>> {
-    let mut file = Outer::new(file);
-    let text = match read_all(rt.alloc(), &mut file) {
+fn state_in<'a>(rt: &HostRuntime, file: File, path: &'a str) -> Result<KeptState, Incident<'a>> {
+    let text = match text_in(rt, file) {
         Ok(text) => text,
-        Err(ReadFault::OutOfMemory) => return Err(Failure::OutOfMemory.in_file(path)),
-        Err(ReadFault::Read) => return Err(Failure::State(StateRefusal::Unread).in_file(path)),
+        Err(reason) => return Err(unopened(path, reason)),
     };
     match said_in(rt.alloc(), text.as_slice()) {
         Ok((state, is_doubled)) => {
@@ -271,8 +265,8 @@ fn state_in<'a, F: io::Read + Drop>(
             }
             Ok(state)
         }
-        Err(StateFault::OutOfMemory) => Err(Failure::OutOfMemory.in_file(path)),
-        Err(StateFault::Invalid) => Err(Failure::State(StateRefusal::Invalid).in_file(path)),
+        Err(StateFault::OutOfMemory) => Err(Incident::out_of_memory()),
+        Err(StateFault::Invalid) => Err(invalid().in_file(path)),
     }
 }
 
@@ -298,8 +292,8 @@ impl<'a> Unkept<'a> {
     /// Where that happened, if the state is at a path.
     fn site(self, path: &'a str) -> Site<'a> {
         match self {
-            Unkept::State(reason) => Site::Unwritten(path, reason),
-            Unkept::Output(output, reason) => Site::Unwritten(output, reason),
+            Unkept::State(reason) => site_at(path, reason),
+            Unkept::Output(output, reason) => site_at(output, reason),
             Unkept::Records(failure) => site_of(failure, path),
         }
     }

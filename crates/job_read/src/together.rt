@@ -5,7 +5,10 @@ ghost use Rattle.slreader.specs.WantTexts.{action_value, texts};
 ghost use Rattle.job_read.specs.Together.{add_up, are_negative_in, clash, excess, first_clash, has_few_patterns};
 ghost use Rattle.job_read.specs.Together.{has_positive, is_among, is_positive, is_same_number, is_same_station};
 ghost use Rattle.job_read.specs.Together.{misfit_of, number_in};
+ghost use Rattle.protocol.specs.declared.reason.Reason.TheVariants.{Limit};
 
+use incidents::Failure;
+use protocol::reason::Reason;
 use sl_packet::Seq;
 use slreader::{Want, WantedAction};
 
@@ -26,6 +29,37 @@ pub enum Misfit {
     Patterns,
     /// There is none.
     Nothing,
+}
+
+impl Misfit {
+    /// What is said of it.
+    fn cause(self) -> &'static str {
+        match self {
+            Misfit::Clash(_) =>
+                "a WANT would narrow or move what an earlier one of its station asks for",
+            Misfit::Stations => "there are more WANTs than one reader can ask for",
+            Misfit::Patterns => "the WANTs have more patterns than one reader can ask for",
+            Misfit::Nothing => "there is no WANT",
+        }
+    }
+
+    /// What is allowed of wants together.
+    fn allowed(self) -> &'static str {
+        match self {
+            Misfit::Clash(_) => {
+                "WANTs of one station that have the same number or none, and of which each adds patterns"
+            }
+            Misfit::Stations | Misfit::Nothing => "1 to 255 WANTs",
+            Misfit::Patterns => "at most 1024 patterns in all WANTs",
+        }
+    }
+
+    /// It, as the program reports it: 22 Limit.
+    pub fn failure(self) -> Failure
+        ensures { result.reason ≡ Limit }
+    {
+        Failure::by(Reason::Limit, Some(self.cause())).allowing(self.allowed())
+    }
 }
 
 /// Whether a pattern says what to send, and not what not to send.

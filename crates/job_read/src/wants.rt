@@ -1,14 +1,36 @@
 //! What wants ask for, each and together: those of the command line, and those of a file.
 ghost use Rattle.std.specs.Prelude.{◌≡◌, is_some};
 ghost use Rattle.job_read.specs.Together.{is_kept};
+ghost use Rattle.protocol.specs.declared.reason.Reason.TheVariants.{Limit};
+ghost use Rattle.slreader.specs.Faults.{reader_reason};
 
+use crate::part_texts::{allowed_in, name_of};
 use crate::together::{Misfit, misfit_of};
 use crate::want_lines::want_lines;
 use command_line::ReadOptions;
-use incidents::{Failure, Incident, WantPlace, WantsFault};
+use incidents::{Detail, Failure, Incident, Place};
 use job_base::text_at;
-use slreader::{Want, Window};
+use slreader::{ReaderFault, Want, WantPart, Window};
 use std::alloc::{AllocError, Global};
+
+/// Where the text of a want stands.
+#[derive(Clone, Copy, Drop)]
+enum WantPlace<'a> {
+    /// A word of the command line.
+    Word(&'a str),
+    /// A line of a file, from 1 on.
+    Line { path: &'a str, number: u64 },
+}
+
+impl<'a> WantPlace<'a> {
+    /// It, as a failure's place.
+    fn place(self) -> Place<'a> {
+        match self {
+            WantPlace::Word(word) => Place::Word(word),
+            WantPlace::Line { path, number } => Place::Line { path, number },
+        }
+    }
+}
 
 /// The text of a want, and where it stands.
 #[derive(Clone, Copy)]
@@ -73,7 +95,7 @@ pub fn wants_of<'a: 'w, 'w>(
 ) -> Result<Vec<Want<'w>>, Incident<'a>> {
     let path = options.wants_file.unwrap_or("");
     let Ok(texts) = texts_of(alloc, words, path, listed) else {
-        return Err(Incident::from(Failure::OutOfMemory));
+        return Err(Incident::out_of_memory());
     };
     let wants = each_of(alloc, &texts, window)?;
     match misfit_of(&wants, is_kept(options), options.retry.is_some()) {
@@ -100,7 +122,7 @@ fn each_of<'a, 'w>(
     for text in texts {
         let want = want_of(alloc, text, window)?;
         if wants.push(want).is_err() {
-            return Err(Incident::from(Failure::OutOfMemory));
+            return Err(Incident::out_of_memory());
         }
     }
     Ok(wants)
@@ -114,20 +136,48 @@ fn want_of<'a, 'w>(
 ) -> Result<Want<'w>, Incident<'a>> {
     match Want::parse(alloc, text.text, window) {
         Ok(want) => Ok(want),
-        Err(fault) => Err(Incident::of_want(text.place, text.text, window, fault)),
+        Err(fault) => Err(unwanted(text, window, fault)),
     }
 }
 
-/// Why wants are not asked for together.
-fn refused<'a>(texts: &[WantText<'a, '_>], misfit: Misfit) -> Incident<'a> {
-    let fault = match misfit {
-        Misfit::Clash(place) => match texts.get(place) {
-            Some(text) => return Incident::of_clash(text.place),
-            None => WantsFault::Clash,
-        },
-        Misfit::Stations => WantsFault::Stations,
-        Misfit::Patterns => WantsFault::Patterns,
-        Misfit::Nothing => WantsFault::Nothing,
-    };
-    Incident::from(Failure::Wants(fault))
+/// A text that is no want in a window, and which part of it is wrong.
+fn unwanted<'a>(text: &WantText<'a, '_>, window: Window<'_>, fault: ReaderFault) -> Incident<'a>
+    ensures { result.failure.reason ≡ reader_reason fault }
+{
+    let failure = Failure::by(fault.reason(), fault.cause());
+    if failure.reason.is_memory() {
+        return failure.at(Place::Nowhere);
+    }
+    let place = text.place.place();
+    match Want::wrong_part(text.text, window) {
+        Some(part) => failure
+            .allowing(allowed_in(part))
+            .at(place)
+            .with(Detail::Part(name_of(part))),
+        None => failure.at(place),
+    }
+}
+
+/// Why wants are not asked for together: at the want that clashes with an earlier one, if that is why.
+fn refused<'a>(texts: &[WantText<'a, '_>], misfit: Misfit) -> Incident<'a>
+    ensures { result.failure.reason ≡ Limit }
+{
+    let failure = misfit.failure();
+    match clashing(texts, misfit) {
+        Some(text) => failure
+            .at(text.place.place())
+            .with(Detail::Part(name_of(WantPart::Station))),
+        None => failure.at(Place::Nowhere),
+    }
+}
+
+/// The want that clashes with an earlier one, if that is why some are not asked for together.
+fn clashing<'t, 'a, 'w>(
+    texts: &'t [WantText<'a, 'w>],
+    misfit: Misfit,
+) -> Option<&'t WantText<'a, 'w>> {
+    match misfit {
+        Misfit::Clash(place) => texts.get(place),
+        _ => None,
+    }
 }

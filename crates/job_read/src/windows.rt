@@ -1,30 +1,47 @@
 //! The moments between which records are wanted.
 ghost use Rattle.std.specs.Prelude.{◌≡◌, ◌⊎◌, false, option_and_then, option_map, IfErr, IfOk};
 ghost use Rattle.protocol.specs.Time.{time_of};
+ghost use Rattle.sl_time.specs.Parsed.{time_reason};
 ghost use Rattle.slreader.specs.WantTexts.{window_value};
-ghost use Rattle.incidents.specs.declared.failure.Failure.TheVariants.{Backwards};
+ghost use Rattle.protocol.specs.declared.reason.Reason.TheVariants.{Limit};
 ghost use Rattle.job_read.specs.Windows.{IsNoMoment, IsMoment, IsMomentOf, RefusesMoment, is_backwards, window_by};
 
 use command_line::ReadOptions;
-use incidents::{Failure, Incident, Site};
-use sl_time::{Tick, command_time};
+use incidents::{Failure, Incident, Place};
+use protocol::reason::Reason;
+use sl_time::{Tick, TimeFault, command_time};
 use slreader::Window;
 use std::alloc::Global;
 
 /// The text of a command's time for a word of the command line.
 ///
-/// It fails with Moment where the word spells no time, and with OutOfMemory only for want of memory.
+/// It fails with the time's fault if the word spells no time, and with OutOfMemory only for want of memory.
 fn text_of(alloc: Global, word: &str) -> Result<Vec<u8>, Failure>
     ensures text { IfOk result (λ text. IsMoment word.now text.items) }
     ensures fault { IfErr result (IsNoMoment word.now) }
 {
     let Ok(text) = command_time(alloc, word.as_bytes()) else {
-        return Err(Failure::OutOfMemory);
+        return Err(Failure::out_of_memory());
     };
     match sl_time::parse(&text) {
         Ok(_) => Ok(text),
-        Err(fault) => Err(Failure::Moment(fault)),
+        Err(fault) => Err(no_moment(fault)),
     }
+}
+
+/// What is said of a word that spells no time.
+fn no_moment(fault: TimeFault) -> Failure
+    ensures { result.reason ≡ time_reason fault }
+{
+    let cause = match fault {
+        TimeFault::Shape => "a word is no time: the text has not the shape of a time",
+        TimeFault::Range => {
+            "a word is no time: a number of the time is out of range, or there is no such date"
+        }
+    };
+    Failure::by(fault.reason(), Some(cause)).allowing(
+        "a time in UTC, as 2024-02-29, 2024-02-29T00:00:00 or 2024,2,29,0,0,0",
+    )
 }
 
 /// The same for an option that may be left out.
@@ -63,14 +80,14 @@ fn is_backwards(begin: &Option<Vec<u8>>, last: &Option<Vec<u8>>) -> bool
 
 /// Why a window is refused that ends before it begins.
 fn backwards<'a>(last: Option<&'a str>) -> Incident<'a>
-    ensures { result.failure ≡ Backwards }
+    ensures { result.failure.reason ≡ Limit }
 {
+    let failure = Failure::by(Reason::Limit, Some("the window ends before it begins")).allowing(
+        "the time of --begin, or a later one",
+    );
     match last {
-        Some(word) => Failure::Backwards.in_word(word),
-        None => Incident {
-            failure: Failure::Backwards,
-            site: Site::Unnamed,
-        },
+        Some(word) => failure.in_word(word),
+        None => failure.at(Place::Nowhere),
     }
 }
 
@@ -85,7 +102,7 @@ pub struct Moments {
 impl Moments {
     /// Those of the options.
     ///
-    /// It fails with Moment if a word spells no time, with Backwards if the end lies before the begin, and with
+    /// It fails with 60 or 61 if a word spells no time, with 22 if the end lies before the begin, and with
     /// OutOfMemory only if there is no memory.
     pub fn read<'a>(alloc: Global, options: ReadOptions<'a>) -> Result<Moments, Incident<'a>>
         ensures begin { IfOk result (λ moments.
@@ -96,7 +113,7 @@ impl Moments {
         ensures forwards { IfOk result (λ moments. is_backwards (option_map (λ text. text.items) moments.begin)
             (option_map (λ text. text.items) moments.last) ≡ false) }
         ensures refused { IfErr result (λ incident. RefusesMoment options.entry.begin incident.failure
-            ⊎ RefusesMoment options.entry.last incident.failure ⊎ (incident.failure ≡ Backwards)) }
+            ⊎ RefusesMoment options.entry.last incident.failure ⊎ (incident.failure.reason ≡ Limit)) }
     {
         let begin = moment_of(alloc, options.begin)?;
         let last = moment_of(alloc, options.last)?;

@@ -4,10 +4,9 @@ use Rattle.std.specs.Borrow.{Bor}
 use Rattle.protocol.specs.Access.{Token}
 use Rattle.access_list.specs.Tokens.{list_of}
 use Rattle.access_list.specs.declared.fault.AccessFault.{AccessFault}
-use Rattle.catalog.specs.declared.fault.ConfigFault.TheVariants.{Access}
-use Rattle.incidents.specs.declared.failure.Failure.TheVariants.{Config}
+use Rattle.protocol.specs.declared.reason.Reason.TheVariants.{Access}
 use Rattle.incidents.specs.declared.incident.Incident.{Incident}
-use Rattle.incidents.specs.Sites.{IsListSite}
+use Rattle.incidents.specs.declared.site.Place.TheVariants.{Word}
 
 -- Feeds are taken from the addresses of the list that a word spells, or from all without one.
 abbrev pub FeedsFrom : Option (Bor (List ℕ)) → Option (List Token) → Type 0
@@ -19,8 +18,8 @@ FeedsFrom (Some word) (Some list) = list_of word.now ≡ Ok list
 pub record IsRefused (word : Bor (List ℕ)) (incident : Incident) : Type 0 where
   pub fault : AccessFault
   pub is : list_of word.now ≡ Err fault
-  pub failure : incident.failure ≡ Config (Access fault)
-  pub site : IsListSite word incident.site
+  pub reason : incident.failure.reason ≡ Access
+  pub place : incident.site.place ≡ Word word
 
 abbrev pub RefusesList : Option (Bor (List ℕ)) → Incident → Type 0
 RefusesList None incident = ⊥

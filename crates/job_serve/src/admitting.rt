@@ -1,11 +1,12 @@
 //! Who may connect to a server, by the words of its command line.
 ghost use Rattle.std.specs.Prelude.{◌≡◌, ◌≢◌, IfErr, IfOk};
 ghost use Rattle.job_serve.specs.Admitting.{FeedsFrom, RefusesList};
-ghost use Rattle.incidents.specs.declared.failure.Failure.TheVariants.{OutOfMemory};
+ghost use Rattle.protocol.specs.declared.reason.Reason.TheVariants.{OutOfMemory};
 
 use access_list::AccessList;
 use command_line::ServeOptions;
-use incidents::{Failure, Incident};
+use incidents::Incident;
+use job_base::refused_list;
 use ports_socket::Admission;
 use std::alloc::Global;
 
@@ -19,7 +20,7 @@ pub fn admission_of<'a>(
 ) -> Result<Admission, Incident<'a>>
     ensures feeds { IfOk result (λ admission. FeedsFrom options.now.feed_from admission.feed_from) }
     ensures clients { IfOk result (λ admission. admission.per_address ≡ options.now.per_address) }
-    ensures refused { IfErr result (λ incident. incident.failure ≢ OutOfMemory →
+    ensures refused { IfErr result (λ incident. incident.failure.reason ≢ OutOfMemory →
         RefusesList options.now.feed_from incident) }
 {
     let per_address = options.per_address;
@@ -34,6 +35,6 @@ pub fn admission_of<'a>(
             feed_from: Some(list),
             per_address,
         }),
-        Err(fault) => Err(Incident::of_list(word, fault)),
+        Err(fault) => Err(refused_list(alloc, word, fault)),
     }
 }

@@ -8,15 +8,15 @@ ghost use Rattle.catalog.specs.Numbers.{config_by};
 ghost use Rattle.number_file.specs.Tables.{with_nexts};
 ghost use Rattle.serving.specs.Ahead.{ahead_of};
 
+use crate::numbers_fault::NumbersFault;
 use catalog::{Config, ConfigFault, KeptNumber};
-use incidents::{Failure, Incident, NumbersFault, Site};
-use job_base::replace;
+use files::{LockFault, lock_at, place_of, replace, text_in};
+use incidents::{Failure, Incident, Place};
 use number_file::{NumberTable, read_numbers};
 use protocol::reason::Reason;
 use serving::NumbersAhead;
-use sl_io::{Outer, ReadFault, read_all};
 use std::alloc::{AllocError, Global};
-use std::fs::{File, OpenOptions, TryLockError};
+use std::fs::File;
 use std::{fs, io};
 
 /// A file of numbers: what it said when the server began, and what it is to say.
@@ -43,13 +43,13 @@ impl<'a> NumberFile<'a> {
         path: &'a str,
         config: &mut Config,
     ) -> Result<NumberFile<'a>, Incident<'a>> {
-        let place = place_of(rt, path)?;
+        let place = place_named(rt, path)?;
         let lock = locked(rt, place.as_str(), path)?;
         let first = kept_at(rt, place.as_str(), path)?;
         config.begin_at(first.as_slice());
         match NumberFile::of(rt.alloc(), path, place, lock, first, config) {
             Ok(file) => Ok(file),
-            Err(_) => Err(Incident::from(Failure::OutOfMemory)),
+            Err(_) => Err(Incident::out_of_memory()),
         }
     }
 
@@ -91,7 +91,7 @@ impl<'a> NumberFile<'a> {
     ) -> Result<(), Incident<'a>> {
         set_numbers(&mut self.table, numbers);
         if self.table.write(&mut self.text).is_err() {
-            return Err(Incident::from(Failure::OutOfMemory));
+            return Err(Incident::out_of_memory());
         }
         match replace(
             rt,
@@ -100,10 +100,11 @@ impl<'a> NumberFile<'a> {
             self.text.as_slice(),
         ) {
             Ok(()) => Ok(()),
-            Err(reason) => Err(Incident {
-                failure: Failure::Of(Reason::Numbers),
-                site: Site::Unwritten(self.path, reason),
-            }),
+            Err(reason) => Err(
+                Failure::of(Reason::Numbers)
+                    .at(Place::File(self.path))
+                    .because(reason),
+            ),
         }
     }
 }
@@ -122,62 +123,32 @@ fn set_numbers(table: &mut NumberTable, numbers: &NumbersAhead<'_>)
 
 /// Why a file of numbers, that a word names, was not opened.
 fn unopened<'a>(path: &'a str, reason: io::Error) -> Incident<'a> {
-    if reason.kind() == io::ErrorKind::OutOfMemory {
-        return Incident::from(Failure::OutOfMemory);
-    }
-    Incident {
-        failure: Failure::Numbers(NumbersFault::Unread),
-        site: Site::Unopened(path, reason),
-    }
+    NumbersFault::Unread
+        .failure()
+        .by_system(Place::File(path), reason)
 }
 
 /// Where the file is that a word names: if that is a symbolic link, the file to which it points. It fails if that is no
-/// plain file.
-fn place_of<'a>(rt: &HostRuntime, path: &'a str) -> Result<String, Incident<'a>> {
-    match fs::metadata(rt, path) {
-        Ok(found) if found.is_file() => target_of(rt, path),
-        Ok(_) => Err(Failure::Numbers(NumbersFault::Special).in_file(path)),
-        Err(reason) if reason.kind() == io::ErrorKind::NotFound => new_place(rt, path),
-        Err(reason) => Err(unopened(path, reason)),
-    }
-}
-
-/// Where a file is that is there.
-fn target_of<'a>(rt: &HostRuntime, path: &'a str) -> Result<String, Incident<'a>> {
-    match fs::canonicalize(rt, path) {
-        Ok(place) => Ok(place.into_string()),
-        Err(reason) => Err(unopened(path, reason)),
-    }
-}
-
-/// Where a file is to be that is not there: not at a symbolic link to nothing, of which only a name is known.
-fn new_place<'a>(rt: &HostRuntime, path: &'a str) -> Result<String, Incident<'a>> {
-    if fs::symlink_metadata(rt, path).is_ok() {
-        return Err(Failure::Numbers(NumbersFault::Special).in_file(path));
-    }
-    match path.to_string(rt.alloc()) {
+/// plain file, or if the link points to nothing.
+fn place_named<'a>(rt: &HostRuntime, path: &'a str) -> Result<String, Incident<'a>> {
+    match place_of(rt, path) {
         Ok(place) => Ok(place),
-        Err(_) => Err(Incident::from(Failure::OutOfMemory)),
+        Err(reason) if reason.kind() == io::ErrorKind::InvalidInput => Err(
+            NumbersFault::Special.failure().in_file(path),
+        ),
+        Err(reason) => Err(unopened(path, reason)),
     }
 }
 
 /// The lock of the file of numbers at a place, that a word names: a file beside it.
 fn locked<'a>(rt: &HostRuntime, place: &str, path: &'a str) -> Result<File, Incident<'a>> {
     let Ok(name) = format!(in rt.alloc(); "{place}.lock") else {
-        return Err(Incident::from(Failure::OutOfMemory));
+        return Err(Incident::out_of_memory());
     };
-    let lock = match OpenOptions::new()
-        .write(true)
-        .create(true)
-        .open(rt, name.as_str())
-    {
-        Ok(lock) => lock,
-        Err(reason) => return Err(unopened(path, reason)),
-    };
-    match lock.try_lock() {
-        Ok(()) => Ok(lock),
-        Err(TryLockError::WouldBlock) => Err(Failure::Numbers(NumbersFault::Locked).in_file(path)),
-        Err(TryLockError::Error(reason)) => Err(unopened(path, reason)),
+    match lock_at(rt, name.as_str()) {
+        Ok(lock) => Ok(lock),
+        Err(LockFault::Busy) => Err(NumbersFault::Locked.failure().in_file(path)),
+        Err(LockFault::Refused(reason)) => Err(unopened(path, reason)),
     }
 }
 
@@ -188,27 +159,25 @@ fn kept_at<'a>(
     path: &'a str,
 ) -> Result<Vec<KeptNumber>, Incident<'a>> {
     match fs::open(rt, place) {
-        Ok(file) => kept_in(rt.alloc(), file, path),
+        Ok(file) => kept_in(rt, file, path),
         Err(reason) if reason.kind() == io::ErrorKind::NotFound => Ok(Vec::new(rt.alloc())),
         Err(reason) => Err(unopened(path, reason)),
     }
 }
 
 /// The numbers in a file that is open.
-fn kept_in<'a, F: io::Read + Drop>(
-    alloc: Global,
-    file: F,
+fn kept_in<'a>(
+    rt: &HostRuntime,
+    file: File,
     path: &'a str,
 ) -> Result<Vec<KeptNumber>, Incident<'a>> {
-    let mut file = Outer::new(file);
-    let text = match read_all(alloc, &mut file) {
+    let text = match text_in(rt, file) {
         Ok(text) => text,
-        Err(ReadFault::OutOfMemory) => return Err(Failure::OutOfMemory.in_file(path)),
-        Err(ReadFault::Read) => return Err(Failure::Numbers(NumbersFault::Unread).in_file(path)),
+        Err(reason) => return Err(unopened(path, reason)),
     };
-    match read_numbers(alloc, text.as_slice()) {
+    match read_numbers(rt.alloc(), text.as_slice()) {
         Ok(numbers) => Ok(numbers),
-        Err(ConfigFault::OutOfMemory) => Err(Failure::OutOfMemory.in_file(path)),
-        Err(_) => Err(Failure::Numbers(NumbersFault::Invalid).in_file(path)),
+        Err(ConfigFault::OutOfMemory) => Err(Incident::out_of_memory()),
+        Err(_) => Err(NumbersFault::Invalid.failure().in_file(path)),
     }
 }

@@ -9,7 +9,7 @@ use crate::status::{StatusDoor, status_door};
 use catalog::Config;
 use command_line::ServeOptions;
 use config_explained::open_to_everybody;
-use incidents::{Failure, Incident};
+use incidents::Incident;
 use job_base::{ServerAddress, config_in, plain_at, server_of, tell_unknown_keys, text_at};
 use ports_socket::Admission;
 use std::alloc::Global;
@@ -88,7 +88,7 @@ pub fn served_by<'a>(
                 numbers,
             },
         }),
-        Err(_) => Err(Failure::OutOfMemory.in_file(options.config)),
+        Err(_) => Err(Incident::out_of_memory()),
     }
 }
 
@@ -100,7 +100,7 @@ fn numbers_at<'a>(
 ) -> Result<Box<NumberFile<'a>>, Incident<'a>> {
     match Box::new(rt.alloc(), NumberFile::open(rt, path, config)?) {
         Ok(file) => Ok(file),
-        Err(_) => Err(Incident::from(Failure::OutOfMemory)),
+        Err(_) => Err(Incident::out_of_memory()),
     }
 }
 
@@ -128,6 +128,6 @@ fn open_for<'a>(
     }
     match open_to_everybody(alloc, config, text) {
         Ok(open) => Ok(open),
-        Err(_) => Err(Failure::OutOfMemory.in_file(options.config)),
+        Err(_) => Err(Incident::out_of_memory()),
     }
 }

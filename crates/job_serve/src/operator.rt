@@ -5,7 +5,6 @@ ghost use Rattle.serving.specs.Asked.Asked.{Looks, Refuses};
 ghost use Rattle.serving.specs.Paces.{IsPaced};
 ghost use Rattle.serving.specs.Faults.{serve_reason};
 ghost use Rattle.protocol.specs.declared.reason.Reason.TheVariants.{Poll};
-ghost use Rattle.incidents.specs.declared.failure.Failure.TheVariants.{Of};
 ghost use Rattle.job_serve.specs.Serving.{ServedByFile, EndedByFile};
 ghost use Rattle.job_serve.specs.Timetables.{timetable_of};
 ghost use Rattle.incidents.specs.declared.incident.Incident.{Incident};
@@ -16,15 +15,17 @@ use crate::spare::Spare;
 use crate::starting::InForceLine;
 use crate::status::StatusDesk;
 use crate::timetable::timetable_of;
-use crate::visits::{SharedLines, micros_of};
+use crate::visits::SharedLines;
 use catalog::Config;
 use command_line::ServeOptions;
 use config_explained::{Difference, first_difference};
 use error_lines::ErrorLine;
 use event_loop::Loop;
-use incidents::{Failure, Incident, Site, ToldIncident};
-use job_base::{config_in, plain_text_at, refuse_unknown, unknown_lines};
+use files::microseconds;
+use incidents::{Detail, Failure, Incident, Place, Site, ToldIncident};
+use job_base::{config_in, lines_of, plain_text_at, refuse_unknown, unknown_lines};
 use ports::Ports;
+use protocol::reason::Reason;
 use serving::{
     Activity, Between, Due, NumbersAhead, Pace, Refusal, ServeFault, Timetable, serve_between,
 };
@@ -66,7 +67,7 @@ pub struct Operator<'r, 'a, 'l> {
     spare: Spare,
     /// How the last keep of numbers went, and where the first one failed, if it did.
     last_keep: LastKeep,
-    unkept: Site<'a>,
+    unkept: Option<Site<'a>>,
     is_verbose: bool,
     /// Whether a configuration is refused for keys that are not known.
     is_strict: bool,
@@ -112,7 +113,13 @@ impl<'a> Operator<'_, 'a, '_> {
 
     /// Tells that the configuration that was read last differs in more than access lists.
     fn tell_difference(&mut self) {
-        let incident = Incident::of_difference(self.path, self.difference.take());
+        let found = match self.difference.take() {
+            Some(difference) => lines_of(self.rt.alloc(), difference),
+            None => Detail::Nothing,
+        };
+        let incident = Failure::of(Reason::Different)
+            .at(Place::File(self.path))
+            .with(found);
         self.tell(&incident);
     }
 
@@ -136,7 +143,7 @@ impl<'a> Operator<'_, 'a, '_> {
     /// each turn. Before any were kept, that ends the run, which tells it then.
     fn note_unkept(&mut self, incident: Incident<'a>) {
         match self.last_keep {
-            LastKeep::Missing => self.unkept = incident.site,
+            LastKeep::Missing => self.unkept = Some(incident.site),
             LastKeep::Succeeded => {
                 self.last_keep = LastKeep::Failed;
                 self.tell(&incident);
@@ -148,7 +155,7 @@ impl<'a> Operator<'_, 'a, '_> {
 
 /// The want of memory for a server.
 pub fn no_memory<'a>() -> Incident<'a> {
-    Incident::from(Failure::OutOfMemory)
+    Incident::out_of_memory()
 }
 
 impl<'r, 'a, 'l> Operator<'r, 'a, 'l> {
@@ -175,7 +182,7 @@ impl<'r, 'a, 'l> Operator<'r, 'a, 'l> {
             numbers,
             spare: Spare::new(rt),
             last_keep: LastKeep::Missing,
-            unkept: Site::Unnamed,
+            unkept: None,
             is_verbose: request.is_verbose,
             is_strict: options.is_strict,
             unknown: Vec::new(rt.alloc()),
@@ -190,15 +197,13 @@ impl<'r, 'a, 'l> Operator<'r, 'a, 'l> {
 
     /// What ended a run, and where, if that is known.
     fn incident_of(self, fault: ServeFault) -> Incident<'a>
-        ensures { result.failure ≡ Of (serve_reason fault) }
+        ensures { result.failure.reason ≡ serve_reason fault }
     {
         let unkept = self.unkept;
-        Incident {
-            failure: Failure::Of(fault.reason()),
-            site: match fault {
-                ServeFault::Numbers => unkept,
-                _ => Site::Unnamed,
-            },
+        let incident = Failure::of(fault.reason()).at(Place::Nowhere);
+        match fault {
+            ServeFault::Numbers => incident.at_site(unkept),
+            _ => incident,
         }
     }
 
@@ -345,7 +350,7 @@ impl<'a> Between for Operator<'_, 'a, '_> {
         }
         if let (Some(now), Some(status)) = (self.passed(), &mut self.status) {
             status.look(self.rt.alloc(), now, server);
-            status.end_turn(micros_of(self.rt));
+            status.end_turn(microseconds(self.rt));
         }
     }
 }
@@ -363,7 +368,7 @@ pub fn serve_by<'a, 'l, P: Ports + Drop>(
 ) -> Result<P, Incident<'a>>
     ensures served { IfOk result (λ left.
         ServedByFile (timetable_of request.entry.options) config (P.calls ports) (P.calls left)) }
-    ensures ended { IfErr result (λ incident. incident.failure ≡ Of Poll →
+    ensures ended { IfErr result (λ incident. incident.failure.reason ≡ Poll →
         EndedByFile (timetable_of request.entry.options) config (P.calls ports)) }
 {
     let timetable = timetable_of(&request.options);

@@ -2,6 +2,7 @@
 ghost use Rattle.std.specs.Prelude.{◌≡◌, ◌≤◌, ◌+◌, [], IfOk};
 
 use crate::counts::SharedCounts;
+use crate::listening::unlistened_for;
 use crate::opening::{Served, ServerDoors, doors_of, served_by};
 use crate::operator::{ServeRequest, no_memory, serve_by};
 use crate::starting::StartLine;
@@ -59,7 +60,7 @@ fn ports_at<'a>(
     let for_feeds = feeds.endpoint.socket_address();
     match MioPorts::listen_to(rt, rt.alloc(), for_clients, for_feeds, admission) {
         Ok(ports) => Ok(ports),
-        Err(error) => Err(Incident::of_listening(clients.word, feeds.word, error)),
+        Err(error) => Err(unlistened_for(clients, feeds, error)),
     }
 }
 

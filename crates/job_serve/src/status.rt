@@ -1,5 +1,6 @@
 //! The status port of a server: between its turns it is looked at, and what is asked is answered.
 use crate::counts::SharedCounts;
+use crate::listening::unlistened;
 use crate::opening::Served;
 use crate::operator::no_memory;
 use access_list::AccessList;
@@ -8,9 +9,8 @@ use command_line::{ServeOptions, VERSION};
 use config_explained::users_of;
 use event_loop::Loop;
 use incidents::Incident;
-use job_base::{ServerAddress, server_of};
+use job_base::{ServerAddress, refused_list, server_of};
 use ports::Ports;
-use ports_socket::ListenError;
 use server_watch::{Told, Watch};
 use sl_time::Tick;
 use status_page::Target;
@@ -37,7 +37,7 @@ fn list_of<'a>(alloc: Global, word: Option<&'a str>) -> Result<Option<AccessList
     match word {
         Some(word) => match AccessList::parse(alloc, word.as_bytes()) {
             Ok(list) => Ok(Some(list)),
-            Err(fault) => Err(Incident::of_list(word, fault)),
+            Err(fault) => Err(refused_list(alloc, word, fault)),
         },
         None => Ok(None),
     }
@@ -77,11 +77,7 @@ fn listen_at<'a>(rt: &HostRuntime, door: StatusDoor<'a>) -> Result<StatusPorts, 
     let StatusDoor { address, list } = door;
     match StatusPorts::listen(rt, rt.alloc(), address.endpoint.socket_address(), list) {
         Ok(ports) => Ok(ports),
-        Err(reason) => Err(Incident::of_listening(
-            address.word,
-            address.word,
-            ListenError::Clients(reason),
-        )),
+        Err(reason) => Err(unlistened(address, reason)),
     }
 }
 

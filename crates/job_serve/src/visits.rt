@@ -7,6 +7,7 @@ use crate::cuts::OpenClients;
 use crate::refusals::{RefusalLog, RefusedLine, RefusedText};
 use catalog::Config;
 use error_lines::{ErrorLine, ErrorLines, StandardError};
+use files::{microseconds, milliseconds};
 use ports::RecordRefusal;
 use ports_logged::{Journal, Sent, Visit};
 use std::alloc::{AllocError, Global};
@@ -117,14 +118,6 @@ impl<'l> VisitLines<'l> {
     }
 }
 
-/// The system's monotonic clock, in microseconds; 0 if it can't tell the time.
-pub fn micros_of(rt: &HostRuntime) -> u64 {
-    match rt.monotonic() {
-        Ok(now) => u64::try_from(now.as_micros()).unwrap_or(u64::MAX),
-        Err(_) => 0,
-    }
-}
-
 /// A line of the server's log.
 fn line_of(text: impl Display + Drop) -> ErrorLine {
     let mut line = ErrorLine::new();
@@ -141,11 +134,7 @@ impl VisitLines<'_> {
         port: u64,
         refusal: RecordRefusal,
     ) {
-        let now = match self.rt.monotonic() {
-            Ok(now) => u64::try_from(now.as_millis()).unwrap_or(u64::MAX),
-            Err(_) => 0,
-        };
-        match self.refusals.add(port, refusal, now) {
+        match self.refusals.add(port, refusal, milliseconds(self.rt)) {
             Some(RefusedLine::First) => lines.write_line(&line_of(visit)),
             Some(more) => lines.write_line(&line_of(RefusedText(more))),
             None => {}
@@ -229,7 +218,7 @@ impl Journal for VisitLines<'_> {
     fn heard(&mut self) {
         if let Some(counts) = self.counts {
             if counts.is_waiting() {
-                counts.begin_turn(micros_of(self.rt));
+                counts.begin_turn(microseconds(self.rt));
             }
         }
     }

@@ -1,2 +1,3 @@
 pub mod Columns
 pub mod Answers
+pub mod Faults

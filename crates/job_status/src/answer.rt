@@ -2,9 +2,9 @@
 ghost use Rattle.std.specs.Prelude.{◌≡◌, Bool, IfOk, IfSome};
 ghost use Rattle.job_status.specs.Answers.{Answers, code_by};
 
+use crate::status_fault::StatusFault;
 use httparse::Status;
 use httparse::spans::{EMPTY_HEADER_SPAN, HeaderSpan, parse_response};
-use incidents::StatusFault;
 use itoa::Buffer;
 
 /// How many fields the head of an answer may have.

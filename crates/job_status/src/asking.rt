@@ -1,5 +1,6 @@
 //! A question to a status port over a connection.
-use incidents::{Failure, StatusFault};
+use crate::status_fault::StatusFault;
+use incidents::Failure;
 use sl_io::{Outer, ReadFault, read_all, write_all};
 use std::alloc::Global;
 use std::io::{Read, Write};
@@ -17,7 +18,7 @@ const MOST: u64 = 1 << 26;
 
 /// What failed while a status port was to answer.
 fn ended() -> Failure {
-    Failure::Status(StatusFault::Ended)
+    StatusFault::Ended.failure()
 }
 
 /// Asks over a connection, and gives it back.
@@ -34,7 +35,7 @@ fn take_answer(alloc: Global, stream: TcpStream) -> Result<Vec<u8>, Failure> {
     let mut input = Outer::new(stream.take(MOST));
     match read_all(alloc, &mut input) {
         Ok(bytes) => Ok(bytes),
-        Err(ReadFault::OutOfMemory) => Err(Failure::OutOfMemory),
+        Err(ReadFault::OutOfMemory) => Err(Failure::out_of_memory()),
         Err(ReadFault::Read) => Err(ended()),
     }
 }

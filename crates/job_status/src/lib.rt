@@ -9,6 +9,7 @@
 mod answer;
 mod asking;
 mod columns;
+mod status_fault;
 mod telling;
 
 pub use answer::{Answer, answer_in};

@@ -13,7 +13,7 @@ fn write_text(rt: &HostRuntime, text: &[u8]) -> Result<(), Failure> {
     let mut out = Outer::new(io::writer(rt));
     match write_all(&mut out, text) {
         Ok(()) => Ok(()),
-        Err(_) => Err(Failure::Check(StreamFault::Write)),
+        Err(_) => Err(Failure::of(StreamFault::Write.reason())),
     }
 }
 
@@ -21,10 +21,10 @@ fn write_text(rt: &HostRuntime, text: &[u8]) -> Result<(), Failure> {
 fn tell_answer(rt: &HostRuntime, bytes: &[u8]) -> Result<bool, Failure> {
     let answer = match answer_in(bytes) {
         Ok(answer) => answer,
-        Err(fault) => return Err(Failure::Status(fault)),
+        Err(fault) => return Err(fault.failure()),
     };
     let Ok(text) = laid_out(rt.alloc(), answer.body) else {
-        return Err(Failure::OutOfMemory);
+        return Err(Failure::out_of_memory());
     };
     write_text(rt, text.as_slice())?;
     Ok(answer.is_silent)

@@ -3,11 +3,11 @@ ghost use Rattle.std.specs.Prelude.{◌≡◌};
 ghost use Rattle.ports_socket.specs.Doors.{GivesOf, IfConnection, PassesOver, TakesTurns, listener_of, other_kind};
 
 use crate::fault::ListenError;
-use crate::options::set_options;
 use crate::peer::PeerKind;
 use crate::polling::{LAST, token_of};
 use mio::net::{TcpListener, TcpStream};
 use mio::{Interest, Poll};
+use socket_options::{limit_unsent, notice_silence};
 use std::io;
 use std::io::ErrorKind;
 use std::net::{SocketAddr, SocketAddrV4};
@@ -47,7 +47,8 @@ fn listen_on(
     kind: PeerKind,
 ) -> io::Result<Listener> {
     let mut socket = TcpListener::bind(rt, SocketAddr::V4(address))?;
-    set_options(&socket)?;
+    notice_silence(&socket)?;
+    limit_unsent(&socket)?;
     poll.registry()
         .register(&mut socket, token_of(LAST, kind), Interest::READABLE)?;
     Ok(Listener {

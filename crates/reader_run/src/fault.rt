@@ -30,4 +30,13 @@ impl ListingFault {
             ListingFault::State => Reason::State,
         }
     }
+
+    /// What it is in a sentence, if its reason's own sentence doesn't say it.
+    pub fn cause(self) -> Option<&'static str> {
+        match self {
+            ListingFault::Reader(fault) => fault.cause(),
+            ListingFault::Read => Some("the connection ended before the end of the transfer"),
+            _ => None,
+        }
+    }
 }

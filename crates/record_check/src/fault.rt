@@ -27,4 +27,13 @@ impl FileFault {
             FileFault::Partial => Reason::Partial,
         }
     }
+
+    /// What it is in a sentence, if its reason's own sentence doesn't say it.
+    pub fn cause(self) -> Option<&'static str> {
+        match self {
+            FileFault::Record(_) => None,
+            FileFault::Station => Some("no station has the record's network and station codes"),
+            FileFault::Partial => Some("the file ends inside a record"),
+        }
+    }
 }

@@ -26,7 +26,7 @@ fn main(rt: HostRuntime) -> ExitCode {
         Ok(words) => obey(&rt, words.as_slice()),
         Err(error) => {
             if error.kind() == io::ErrorKind::OutOfMemory {
-                failed(&rt, Failure::OutOfMemory)
+                failed(&rt, Failure::out_of_memory())
             } else {
                 told(&rt, "error: a word is no UTF-8\n", false)
             }

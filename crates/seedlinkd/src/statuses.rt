@@ -9,6 +9,7 @@ use crate::work::{Outcome, run_job};
 use command_line::{Request, WordsFault, read_words};
 use incidents::{Failure, Incident};
 use job_base::{is_terminal, tell_incident};
+use protocol::reason::Reason;
 use shown_lines::ShownText;
 use std::process::ExitCode;
 
@@ -43,6 +44,11 @@ fn status_of(rt: &HostRuntime, outcome: Result<Outcome, Incident<'_>>, is_verbos
     }
 }
 
+/// What is said if the text of help could not be written.
+fn unhelped() -> Failure {
+    Failure::by(Reason::Write, Some("help could not be written"))
+}
+
 /// Tells the user how words are taken: help on the standard output, or a mistake on the standard error. The status is 2
 /// for a mistake. For help it is 0, or 1 where that could not be written.
 pub fn told(rt: &HostRuntime, text: &str, is_help: bool) -> ExitCode
@@ -55,7 +61,7 @@ pub fn told(rt: &HostRuntime, text: &str, is_help: bool) -> ExitCode
     }
     match rt.print(text) {
         Ok(()) => ExitCode::SUCCESS,
-        Err(_) => failed(rt, Failure::Write),
+        Err(_) => failed(rt, unhelped()),
     }
 }
 
@@ -72,6 +78,6 @@ pub fn obey(rt: &HostRuntime, words: &[String]) -> ExitCode
             status_of(rt, outcome, is_verbose || is_terminal())
         }
         Err(WordsFault::Refused { text, is_help }) => told(rt, text.as_str(), is_help),
-        Err(WordsFault::OutOfMemory) => failed(rt, Failure::OutOfMemory),
+        Err(WordsFault::OutOfMemory) => failed(rt, Failure::out_of_memory()),
     }
 }

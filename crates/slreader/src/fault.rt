@@ -32,4 +32,12 @@ impl ReaderFault {
             ReaderFault::BadReply => Reason::BadReply,
         }
     }
+
+    /// What it is in a sentence, if its reason's own sentence doesn't say it.
+    pub fn cause(self) -> Option<&'static str> {
+        match self {
+            ReaderFault::Limit => Some("this can't be asked for in SeedLink"),
+            _ => None,
+        }
+    }
 }

@@ -4,10 +4,9 @@ use Rattle.serving.specs.Faults.{serve_reason}
 use Rattle.serving.specs.declared.faults.ServeFault.{ServeFault}
 use Rattle.serving.specs.declared.faults.ServeFault.TheVariants as fault
 use Rattle.protocol.specs.declared.reason.Reason.TheVariants as reason
-use Rattle.incidents.specs.declared.failure.Failure.TheVariants.{Of}
 use Rattle.job_serve.proofs.operator.serve_by.Goals as goal
 
-by_polls : (it : ServeFault) → Of (serve_reason it) ≡ Of reason.Poll → it ≡ fault.Poll
+by_polls : (it : ServeFault) → serve_reason it ≡ reason.Poll → it ≡ fault.Poll
 by_polls fault.OutOfMemory e = absurd (cc)
 by_polls fault.Poll e = refl
 by_polls fault.Numbers e = absurd (cc)

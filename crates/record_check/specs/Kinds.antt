@@ -1,7 +1,7 @@
 -- What a file is by the bytes with which each file of its kind begins: RFC 1952, and miniSEED 3.0 of the FDSN.
 use Rattle.std.specs.Prelude.{ℕ, ◌==◌, ◌&&◌, if◌then◌else◌, List, [], ◌∷◌, Option, Some, None}
-use Rattle.incidents.specs.declared.kinds.FileKind.{FileKind}
-use Rattle.incidents.specs.declared.kinds.FileKind.TheVariants.{Gzip, MiniSeed3}
+use Rattle.record_check.specs.declared.kinds.FileKind.{FileKind}
+use Rattle.record_check.specs.declared.kinds.FileKind.TheVariants.{Gzip, MiniSeed3}
 
 -- by its first three bytes
 abbrev pub kind_by_three : (first second third : ℕ) → Option FileKind

@@ -1,14 +1,12 @@
-//! Options of connections that `mio` has no method for.
+//! Options of TCP connections that std and `mio` have no method for.
 //!
-//! Those of clients and feeds are set at the sockets that are listened on: Linux gives each connection those of the
-//! socket that took it.
-//!
-//! Options of connections are set at the sockets that listen. Linux gives each connection those of the socket that took
-//! it, which spares six calls a connection, and a system that refuses one of them refuses it at the start (46 Listen).
-//! A peer is asked after 30 seconds of silence, six times, every ten seconds; bytes that it does not take wait as long,
-//! 90 seconds, so a client that stalls for longer loses its connection.
+//! A peer is asked after 30 seconds of silence, six times, every ten seconds. Bytes that it does not take wait as long,
+//! 90 seconds, so a peer that stalls for longer loses its connection. Linux gives each connection the options of the
+//! socket that took it, so a server sets them once, at the sockets that listen: that spares six calls a connection, and
+//! a system that refuses one of them refuses it at the start.
+#![tactic(auto)]
+
 use libc::net as c;
-use mio::net::TcpListener;
 use std::io;
 use std::os::fd::{AsRawFd, RawFd};
 
@@ -57,6 +55,7 @@ fn set_option(fd: RawFd, option: SocketOption, value: &[u8; 16]) -> i32 {
     }
 }
 
+/// Sets an option to a number.
 fn set<S: AsRawFd>(socket: &S, option: SocketOption, number: i32) -> io::Result<()> {
     let mut value = [0u8; 16];
     value[..4].copy_from_slice(&number.to_ne_bytes());
@@ -76,8 +75,7 @@ pub fn notice_silence<S: AsRawFd>(socket: &S) -> io::Result<()> {
     set(socket, SocketOption::UserTimeout, PATIENCE)
 }
 
-/// The same, and keep no more than 256 KiB for a peer that takes nothing: on all connections that this socket takes.
-pub fn set_options(socket: &TcpListener) -> io::Result<()> {
-    notice_silence(socket)?;
+/// Has the system keep no more than 256 KiB for a peer that takes nothing.
+pub fn limit_unsent<S: AsRawFd>(socket: &S) -> io::Result<()> {
     set(socket, SocketOption::SendBuffer, SEND_BUFFER)
 }

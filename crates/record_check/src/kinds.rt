@@ -1,8 +1,10 @@
 //! Files that are no files of records, and known for what they are by their first bytes.
 ghost use Rattle.std.specs.Prelude.{◌≡◌};
-ghost use Rattle.incidents.specs.Kinds.{kind_by_signature};
+ghost use Rattle.record_check.specs.Kinds.{kind_by_signature};
 
-use record_check::{AllStations, Detail, FeedTally};
+use crate::feed_tally::{Detail, FeedTally};
+use crate::finding::Finding;
+use crate::stations::AllStations;
 use std::fmt::{self, Display, Formatter, Write};
 
 /// What a file is that is no file of records of 512 bytes.
@@ -55,5 +57,25 @@ pub fn kind_of(bytes: &[u8]) -> Option<FileKind> {
     match kind_by_signature(bytes) {
         Some(kind) => Some(kind),
         None => Some(FileKind::Records(length_of(bytes)?)),
+    }
+}
+
+/// A record in which something is wrong, or what is left over after the last one, and what its file is, if it is known
+/// for no file of records.
+#[derive(Clone, Copy, Drop)]
+pub struct FoundRecord {
+    pub finding: Finding,
+    pub kind: Option<FileKind>,
+}
+
+impl Display for FoundRecord {
+    /// The lines that say so, each with two spaces before it.
+    fn fmt<W: Write>(&self, f: &mut Formatter<W>) -> fmt::Result {
+        let Finding { number, offset, .. } = self.finding;
+        writeln!(f, "  record: {number}\n  offset: {offset}")?;
+        match self.kind {
+            Some(kind) => writeln!(f, "  found: {kind}"),
+            None => Ok(()),
+        }
     }
 }

@@ -1,0 +1,101 @@
+//! The lines that explain why a configuration is refused, and where it differs from another one.
+use crate::difference::Difference;
+use crate::finding::ConfigFinding;
+use crate::setting_texts::key_of;
+use access_list::AccessFault;
+use catalog::{ConfigError, ConfigFault, Step};
+use shown_lines::put_line;
+use std::fmt::{self, Display, Formatter, Write};
+
+/// Why a configuration is refused, in a sentence, if its reason's own sentence doesn't say it.
+pub fn cause_of(fault: ConfigFault) -> Option<&'static str> {
+    match fault {
+        ConfigFault::Access(fault) => list_cause(fault),
+        _ => None,
+    }
+}
+
+/// The same of an access list.
+fn list_cause(fault: AccessFault) -> Option<&'static str> {
+    match fault {
+        AccessFault::Address => Some(
+            "an access list is refused: a token has no address before its first slash",
+        ),
+        AccessFault::Mask => Some(
+            "an access list is refused: a token has no mask behind its first slash",
+        ),
+        AccessFault::OutOfMemory => None,
+    }
+}
+
+/// A configuration that is refused: at which step, and what is found there.
+#[derive(Clone, Copy)]
+pub struct RefusedConfig<'e> {
+    pub error: &'e ConfigError,
+    pub finding: &'e ConfigFinding,
+}
+
+impl Display for RefusedConfig<'_> {
+    /// The lines that say which station and key it is, and what stands there, each with two spaces before it.
+    fn fmt<W: Write>(&self, f: &mut Formatter<W>) -> fmt::Result {
+        let error = self.error;
+        put_key(f, error.step, &error.network, &error.code)?;
+        write!(f, "{}", self.finding)
+    }
+}
+
+impl Display for Difference {
+    /// The lines that say which station and key differ, and both values, each with two spaces before it.
+    fn fmt<W: Write>(&self, f: &mut Formatter<W>) -> fmt::Result {
+        put_key(f, self.step, &self.network, &self.code)?;
+        put_line(f, "in force", &self.in_force)?;
+        put_line(f, "in the file", &self.in_file)
+    }
+}
+
+/// An entry of an access list that is invalid.
+#[derive(Clone, Copy)]
+pub struct RefusedEntry<'e>(pub &'e [u8]);
+
+impl Display for RefusedEntry<'_> {
+    /// The line that quotes it, with two spaces before it.
+    fn fmt<W: Write>(&self, f: &mut Formatter<W>) -> fmt::Result {
+        match str::from_utf8(self.0) {
+            Ok(text) => put_line(f, "entry", text),
+            Err(_) => Ok(()),
+        }
+    }
+}
+
+/// The lines that say which station and key a step reads.
+fn put_key<W: Write>(
+    f: &mut Formatter<W>,
+    step: Step,
+    network: &Option<Vec<u8>>,
+    code: &Option<Vec<u8>>,
+) -> fmt::Result {
+    match step {
+        Step::Station(place, _) => {
+            write!(f, "  station: {}", place as u128 + 1)?;
+            put_code(f, network)?;
+            put_code(f, code)?;
+            writeln!(f, "")?;
+        }
+        _ => {}
+    }
+    match key_of(step) {
+        Some(key) => writeln!(f, "  key: {key}"),
+        None => Ok(()),
+    }
+}
+
+/// A space and a code, if there is one.
+fn put_code<W: Write>(f: &mut Formatter<W>, code: &Option<Vec<u8>>) -> fmt::Result {
+    match code {
+        Some(bytes) => match str::from_utf8(bytes.as_slice()) {
+            Ok(text) => write!(f, " {text}"),
+            Err(_) => Ok(()),
+        },
+        None => Ok(()),
+    }
+}

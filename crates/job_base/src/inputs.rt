@@ -1,0 +1,81 @@
+//! Files that are read whole, configurations among them.
+use catalog::{Config, ConfigError, ConfigFault};
+use config_explained::{ConfigFinding, RefusedConfig, cause_of, finding_of, limit_of};
+use incidents::{Detail, Failure, Incident, Place};
+use protocol::reason::Reason;
+use std::alloc::Global;
+use std::fmt::Display;
+use std::fs::File;
+use std::{fs, io};
+
+/// The configuration in a file.
+pub fn config_at<'a>(rt: &HostRuntime, path: &'a str) -> Result<Config, Incident<'a>> {
+    let text = text_at(rt, path)?;
+    config_in(rt.alloc(), path, text.as_slice())
+}
+
+/// The text of a configuration's file.
+pub fn text_at<'a>(rt: &HostRuntime, path: &'a str) -> Result<Vec<u8>, Incident<'a>> {
+    let file = open(rt, path)?;
+    text_in(rt, path, file)
+}
+
+/// The text of a file that is open, of at most 16 MiB.
+pub fn text_in<'a>(rt: &HostRuntime, path: &'a str, file: File) -> Result<Vec<u8>, Incident<'a>> {
+    match files::text_in(rt, file) {
+        Ok(text) => Ok(text),
+        Err(reason) => Err(unopened(path, reason)),
+    }
+}
+
+/// The configuration that the text of a file spells.
+pub fn config_in<'a>(alloc: Global, path: &'a str, text: &[u8]) -> Result<Config, Incident<'a>> {
+    match Config::read_by_steps(alloc, text) {
+        Ok(config) => Ok(config),
+        Err(error) => Err(refused(alloc, path, text, error)),
+    }
+}
+
+/// A configuration that is refused, and what is found where it is. Without memory that is nothing.
+fn refused<'a>(alloc: Global, path: &'a str, text: &[u8], error: ConfigError) -> Incident<'a> {
+    if matches!(error.fault, ConfigFault::OutOfMemory) {
+        return Incident::out_of_memory();
+    }
+    let finding = match finding_of(alloc, text, &error) {
+        Ok(finding) => finding,
+        Err(_) => ConfigFinding::Nothing,
+    };
+    let found = RefusedConfig {
+        error: &error,
+        finding: &finding,
+    };
+    refused_for(&error)
+        .at(Place::File(path))
+        .with(lines_of(alloc, found))
+}
+
+/// Why a configuration is refused, and what may stand there.
+fn refused_for(error: &ConfigError) -> Failure {
+    Failure::by(error.fault.reason(), cause_of(error.fault)).allowing(limit_of(error.step))
+}
+
+/// The lines that explain something, if there is memory for them.
+pub fn lines_of<D: Display + Drop>(alloc: Global, found: D) -> Detail {
+    match format!(in alloc; "{found}") {
+        Ok(lines) => Detail::Lines(lines),
+        Err(_) => Detail::Nothing,
+    }
+}
+
+/// A file that is opened to be read.
+pub fn open<'a>(rt: &HostRuntime, path: &'a str) -> Result<File, Incident<'a>> {
+    match fs::open(rt, path) {
+        Ok(file) => Ok(file),
+        Err(reason) => Err(unopened(path, reason)),
+    }
+}
+
+/// Why a file could not be opened.
+pub fn unopened<'a>(path: &'a str, reason: io::Error) -> Incident<'a> {
+    Failure::of(Reason::File).by_system(Place::File(path), reason)
+}
