@@ -174,9 +174,20 @@ class Package(Made):
         self.ran("dpkg-deb", "-R", self.deb, "package")
         with tarfile.open(self.archive) as archive:
             archive.extractall("archive")
+            modes = {it.name: it.mode for it in archive}
+        folder = "seedlinkd-" + self.version
         files = kit.files_below("package")
         packed = {path: data for path, data in files.items() if not path.startswith("DEBIAN/")}
-        self.assertEqual(packed, kit.files_below("archive"))
+        unpacked = kit.files_below("archive/" + folder)
+        self.assertEqual(unpacked.pop("install"), kit.bytes_of(kit.TREE + "/tools/package/install"))
+        self.assertEqual(packed, unpacked)
+        # Each folder stands there with its mode, and the configuration names stations that nobody is told of.
+        for path in packed:
+            at = os.path.dirname(path)
+            while at:
+                self.assertEqual(modes.get("%s/%s" % (folder, at)), 0o755, at)
+                at = os.path.dirname(at)
+        self.assertEqual(modes[folder + "/etc/seedlinkd/seedlinkd.toml"], 0o640)
         for path in ["usr/bin/seedlinkd", "etc/seedlinkd/seedlinkd.toml", "usr/share/bash-completion/completions/seedlinkd",
                      "usr/lib/sysusers.d/seedlinkd.conf", DOC + "/PROFILE.md", DOC + "/OPERATING.md", DOC + "/examples/demo"]:
             self.assertIn(path, packed)
@@ -221,8 +232,128 @@ class Package(Made):
         self.assertEqual((ended.status, ended.printed.count("\n"), len(kit.records_in("ape"))), (0, 15, 15))
 
 
+    @kit.limit(120)
+    def test_installed_pages_name_what_is_installed(self):
+        self.make()
+        self.unpack()
+        pages = {path: data.decode() for path, data in kit.files_below(self.folder + "/" + DOC).items() if path.endswith(".md")}
+        for name in ("PROFILE", "OPERATING", "STATUS", "MIGRATING", "DEFINITIONS", "CHANGELOG"):
+            self.assertIn(name + ".md", pages)
+        for page, text in pages.items():
+            for target, anchor in re.findall(r"\]\(([^)#\s]*)(?:#([^)\s]+))?\)", text):
+                if not target.startswith(("http:", "https:")):
+                    path = os.path.normpath(os.path.join(os.path.dirname(page), target)) if target else page
+                    self.assertTrue(os.path.exists(os.path.join(self.folder, DOC, path)), "%s names %s" % (page, target))
+                    if anchor:
+                        titles = re.findall(r"^#+ (.*)$", pages[path], re.M)
+                        self.assertIn(anchor, {re.sub(r"[^\w\- ]", "", it.lower()).strip().replace(" ", "-") for it in titles}, page)
+
+    def unpack(self):
+        """Unpacks the archive, as somebody with another umask may: `folder` is what comes out."""
+        self.ran("tar", "-xzf", self.archive)
+        self.folder = os.path.abspath("seedlinkd-" + self.version)
+
+    def install(self, *words):
+        """Runs `install` with these words: its status, and what it says."""
+        done = kit.ran(self.folder + "/install", *words)
+        return done.returncode, (done.stdout + done.stderr).decode()
+
+    @kit.limit(120)
+    def test_install(self):
+        """Into a folder, over an older version, twice in a row, and away again."""
+        self.make()
+        self.unpack()
+        os.mkdir("root")
+        status, said = self.install("root")
+        self.assertEqual(status, 0, said)
+        packed = kit.files_below(self.folder)
+        packed.pop("install")
+        installed = kit.files_below("root")
+        listed = installed.pop(DOC + "/installed").decode()
+        self.assertEqual(listed.split(), sorted(packed))
+        self.assertEqual(installed, packed)
+        self.assertEqual(os.stat("root/etc/seedlinkd/seedlinkd.toml").st_mode & 0o777, 0o640)
+        self.assertEqual(os.stat("root/usr/bin/seedlinkd").st_mode & 0o777, 0o755)
+        # Again: nothing is said of a configuration that is the same.
+        status, said = self.install("root")
+        self.assertEqual((status, "kept" in said), (0, False), said)
+        self.assertEqual(kit.files_below("root"), {**installed, DOC + "/installed": listed.encode()})
+        # Over an older version, of which a file has gone since, and with a configuration of one's own.
+        kit.write("root/usr/bin/seedlinkd", "older")
+        kit.write("root/usr/lib/systemd/system/seedlinkd.service", "older")
+        kit.write("root/" + DOC + "/GONE.md", "older")
+        kit.write("root/" + DOC + "/installed", listed + DOC + "/GONE.md\n")
+        kit.write("root/etc/seedlinkd/seedlinkd.toml", "one's own")
+        status, said = self.install("root")
+        self.assertEqual((status, "kept %s/root/etc/seedlinkd/seedlinkd.toml;" % os.getcwd() in said), (0, True), said)
+        after = kit.files_below("root")
+        self.assertEqual(after.pop("etc/seedlinkd/seedlinkd.toml"), b"one's own")
+        self.assertEqual(after.pop("etc/seedlinkd/seedlinkd.toml.new"), packed["etc/seedlinkd/seedlinkd.toml"])
+        self.assertEqual(set(after), set(installed) - {"etc/seedlinkd/seedlinkd.toml"} | {DOC + "/installed"})
+        self.assertEqual(after["usr/bin/seedlinkd"], packed["usr/bin/seedlinkd"])
+        # Away: the configuration and what others put there stay.
+        kit.write("root/usr/bin/another", "another")
+        status, said = self.install("--remove", "root")
+        self.assertEqual(status, 0, said)
+        self.assertEqual(set(kit.files_below("root")), {"usr/bin/another", "etc/seedlinkd/seedlinkd.toml", "etc/seedlinkd/seedlinkd.toml.new"})
+        self.assertEqual(self.install("--remove", "root"), (1, "install: nothing that install put there stands below %s/root\n" % os.getcwd()))
+
+    @kit.limit(120)
+    @kit.rows([
+        ("no folder", ["none"], "install: there is no folder none\n"),
+        ("two folders", ["root", "root"], "install: usage: ./install [--remove] [ROOT]\n"),
+        ("an option", ["--purge"], "install: usage: ./install [--remove] [ROOT]\n"),
+        ("a program that does not run", ["root"],
+         "install: the program does not run here: it needs glibc 2.34 or later (Debian 12, Ubuntu 22.04, RHEL 9)\n"),
+    ])
+    def test_nothing_is_installed(self, words, wanted):
+        self.make()
+        self.unpack()
+        os.mkdir("root")
+        if "does not run" in wanted:
+            kit.write(self.folder + "/usr/bin/seedlinkd", "#!/bin/sh\nexit 127\n")
+        self.assertEqual(self.install(*words), (1, wanted))
+        self.assertEqual(kit.files_below("root"), {})
+
+    @kit.limit(120)
+    def test_a_folder_that_cannot_be_written(self):
+        self.make()
+        self.unpack()
+        os.makedirs("root/usr")
+        for it in (os.getcwd(), os.path.dirname(os.getcwd()), self.folder):
+            os.chmod(it, 0o755)
+        os.chmod("root/usr", 0o555)
+        self.addCleanup(os.chmod, "root/usr", 0o755)
+        words = [self.folder + "/install", os.path.abspath("root")]
+        if os.geteuid() == 0:
+            if not shutil.which("setpriv"):
+                self.skipTest("there is no setpriv")
+            words = ["setpriv", "--reuid=65534", "--regid=65534", "--clear-groups"] + words
+            os.chmod("root", 0o777)
+        done = kit.ran(*words)
+        self.assertEqual(done.returncode, 1, done)
+        self.assertIn(b"can't be written; nothing was changed", done.stderr)
+        self.assertEqual(kit.files_below("root"), {})
+
+    @kit.limit(120)
+    def test_the_program_of_the_release_is_packed_without_the_toolchain(self):
+        folder = kit.TREE + "/releases/"
+        if not os.path.exists(folder + "release.txt"):
+            self.skipTest("there is no release")
+        if dict(line.split(" ", 1) for line in text_of(folder, "release.txt").splitlines())["version"] != self.version:
+            self.skipTest("the release is of another version")
+        self.make()
+        os.remove("tree/crates/seedlinkd/out/seedlinkd")
+        os.remove("bin/rt")
+        os.remove(self.archive)
+        self.ran("tools/package.sh", "--released", cwd="tree")
+        self.unpack()
+        said = self.ran(self.folder + "/usr/bin/seedlinkd", "--version")
+        self.assertTrue(said.startswith("seedlinkd %s (" % self.version), said)
+
+
 class Release(kit.Test):
-    def test_the_archive_is_that_of_the_sums(self):
+    def test_what_is_released_is_that_of_the_sums(self):
         """And its program is of the version that release.txt names."""
         folder = kit.TREE + "/releases/"
         if not os.path.exists(folder + "release.txt"):
@@ -230,10 +361,13 @@ class Release(kit.Test):
         sums = [line.split("  ") for line in text_of(folder, "SHA256SUMS").splitlines()]
         self.assertEqual([hashlib.sha256(kit.bytes_of(folder + name)).hexdigest() for _, name in sums], [it for it, _ in sums])
         of_release = dict(line.split(" ", 1) for line in text_of(folder, "release.txt").splitlines())
-        self.assertEqual([name for _, name in sums], ["seedlinkd_%s_amd64.tar.gz" % of_release["version"]])
+        made = "seedlinkd_%s_amd64" % of_release["version"]
+        # Version 0.2.0 has the archive alone.
+        self.assertIn([name for _, name in sums], [[made + ".tar.gz"], [made + ".tar.gz", made + ".deb"]])
         with tarfile.open(folder + sums[0][1]) as archive:
-            archive.extract("usr/bin/seedlinkd")
-        said = subprocess.run(["usr/bin/seedlinkd", "--version"], stdout=subprocess.PIPE, check=True).stdout.decode()
+            program = next(it for it in archive.getnames() if it.endswith("usr/bin/seedlinkd"))
+            archive.extract(program)
+        said = subprocess.run([os.path.abspath(program), "--version"], stdout=subprocess.PIPE, check=True).stdout.decode()
         self.assertTrue(said.startswith("seedlinkd %s (" % of_release["version"]), said)
         self.assertIn(of_release["toolchain"].split()[-1], said)
 

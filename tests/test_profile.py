@@ -283,11 +283,16 @@ class Dialogue(kit.Test):
         for it in digits:
             self.assertRegex(it, r"\A\d+ ([0-9a-f]+|-)( end)?\Z")
 
-    def test_the_demo_prints_what_readme_shows(self):
-        """It runs the program that is on the path where none stands beside it."""
+    @kit.rows([("in a clone", True), ("installed", False)])
+    def test_the_demo_prints_what_readme_shows(self, is_clone):
+        """With commands that work where it stands. It runs the program that is on the path if none stands beside it."""
         shutil.copytree(kit.TREE + "/examples", "examples")
         os.mkdir("bin")
-        os.symlink(kit.PROGRAM, "bin/seedlinkd")
+        if is_clone:
+            kit.write("seedlinkd", '#!/bin/sh\n[ "$1" = --path ] && echo "%s"\n' % kit.PROGRAM)
+            os.chmod("seedlinkd", 0o755)
+        else:
+            os.symlink(kit.PROGRAM, "bin/seedlinkd")
         environment = {**os.environ, "PATH": os.path.abspath("bin") + ":" + os.environ["PATH"]}
         for _ in range(3):
             with socket.create_server(("127.0.0.1", 0)) as first, socket.create_server(("127.0.0.1", 0)) as second:
@@ -299,5 +304,9 @@ class Dialogue(kit.Test):
         self.assertEqual(done.returncode, 0, done.stderr)
         printed = done.stdout.decode().replace(":" + ports[0], ":18000").replace(":" + ports[1], ":18001").splitlines()
         shown = re.search(r"After its version it prints\n\n((?:    .*\n)+)", text_of("README.md"))
-        pieces = pieces_of([it[4:] for it in shown.group(1).splitlines()])
+        lines = [it[4:] for it in shown.group(1).splitlines()]
+        if not is_clone:
+            here = " %s/examples/" % os.path.realpath(".")
+            lines = [it.replace("$ ./seedlinkd ", "$ seedlinkd ").replace(" examples/", here) for it in lines]
+        pieces = pieces_of(lines)
         self.assertTrue(pieces and stand_in_order(pieces, printed), "\n".join(printed))

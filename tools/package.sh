@@ -1,35 +1,50 @@
 #!/bin/sh
-# Makes a Debian package and an archive of the built program: out/seedlinkd_VERSION_amd64.deb and .tar.gz, with the same files.
+# Makes a Debian package and an archive of the program: out/seedlinkd_VERSION_amd64.deb and .tar.gz, with the same files. The
+# archive has an `install` besides.
 #
-#     tools/package.sh
+#     tools/package.sh               of the built program, which is proved and built first if it is not yet
+#     tools/package.sh --released    of the program in releases/, without the toolchain
 #
-# The program is proved and built first if it is not yet. Both files depend on nothing but the commit and the program: made
-# again from the same commit they are the same bytes. What stands in the package beside the program is in tools/package.
+# Both files depend on nothing but the commit and the program: made again from the same commit they are the same bytes. What
+# stands in the package beside the program is in tools/package.
 set -eu
 umask 022
 export LC_ALL=C TZ=UTC
 top=$(cd "$(dirname "$(readlink -f "$0")")/.." && pwd)
 cd "$top"
-./seedlinkd --build
-program=crates/seedlinkd/out/seedlinkd
-
-# The version stands in the program's sources alone, with the logic that proved it, which has to be the toolchain's.
+fail() {
+    echo "package: $1" >&2
+    exit 1
+}
+[ "$*" = "" ] || [ "$*" = --released ] || fail "tools/package.sh [--released]"
+room=$(mktemp -d)
+trap 'rm -rf "$room"' EXIT
+trap 'exit 130' HUP INT TERM
+of_release() { sed -n "s/^$1 //p" releases/release.txt; }
+# The version of the sources. The program says its own, and with which logic it was proved.
 version=$(sed -n 's/^pub const VERSION: &str = "\([^ ]*\) .*";$/\1/p' crates/command_line/src/commands.rt)
-logic=$(rt version | sed -n 's/.* logic \([0-9a-f]*\).*/\1/p')
-[ "$("$program" --version)" = "seedlinkd $version (each function proved, logic $logic)" ] ||
-    { echo "package: the program has another version than its sources, or another logic than the toolchain" >&2; exit 1; }
-commit=$(git rev-parse HEAD)
 changes=
-[ -z "$(git status --porcelain)" ] || changes="
+if [ "$*" = --released ]; then
+    released=releases/seedlinkd_$(of_release version)_amd64.tar.gz
+    (cd releases && sha256sum --status -c SHA256SUMS) || fail "the archive in releases is not the one of releases/SHA256SUMS"
+    program=$room/seedlinkd
+    tar -xzf "$released" -O --wildcards '*usr/bin/seedlinkd' >"$program" && chmod 755 "$program" || fail "$released has no program"
+    commit=$(of_release commit)
+else
+    ./seedlinkd --build
+    program=crates/seedlinkd/out/seedlinkd
+    commit=$(git rev-parse HEAD)
+    [ -z "$(git status --porcelain)" ] || changes="
     Files of it were changed since."
+fi
+said=$("$program" --version)
+logic=$(echo "$said" | sed -n 's/.*, logic \([0-9a-f]*\))$/\1/p')
+[ "$said" = "seedlinkd $version (each function proved, logic $logic)" ] || fail "the program has another version than its sources"
 SOURCE_DATE_EPOCH=$(git log -1 --format=%ct)
 export SOURCE_DATE_EPOCH
 date=$(date -d "@$SOURCE_DATE_EPOCH" '+%a, %d %b %Y %H:%M:%S +0000')
 maintainer="Moreltiller maintainers <maintainers@users.noreply.moreltiller.example>"
 
-room=$(mktemp -d)
-trap 'rm -rf "$room"' EXIT
-trap 'exit 130' HUP INT TERM
 tree=$room/tree
 doc=$tree/usr/share/doc/seedlinkd
 parts=$top/tools/package
@@ -55,16 +70,20 @@ for unit in examples/*.service; do
     sed '/^# A unit for systemd/,/^# \/etc/d; s|/usr/local/bin/|/usr/bin/|; s|/etc/seedlinkd.toml|/etc/seedlinkd/seedlinkd.toml|' "$unit" |
         sed "1i $head" | put_text "usr/lib/systemd/system/$(basename "$unit")"
 done
-put 644 "$parts/seedlinkd.toml" etc/seedlinkd/seedlinkd.toml
+put 640 "$parts/seedlinkd.toml" etc/seedlinkd/seedlinkd.toml
 put 644 "$parts/sysusers.conf" usr/lib/sysusers.d/seedlinkd.conf
 put 644 "$parts/completion.bash" usr/share/bash-completion/completions/seedlinkd
 put 644 "$parts/lintian-overrides" usr/share/lintian/overrides/seedlinkd
-put 644 docs/PROFILE.md usr/share/doc/seedlinkd/PROFILE.md
-put 644 docs/OPERATING.md usr/share/doc/seedlinkd/OPERATING.md
+# Pages stand in one folder there, with those that they name; what is not packed is named without a link.
+for page in CHANGELOG.md docs/PROFILE.md docs/OPERATING.md docs/STATUS.md docs/MIGRATING.md docs/DEFINITIONS.md; do
+    sed 's|](docs/|](|g; s|](\.\./examples/|](examples/|g; s|\[\([^]]*\)\](\.\./[^)]*)|\1|g' "$page" |
+        put_text "usr/share/doc/seedlinkd/$(basename "$page")"
+done
 for example in examples/* examples/records/* examples/many_servers/*; do
     if [ -x "$example" ] && [ -f "$example" ]; then put 755 "$example" "usr/share/doc/seedlinkd/$example"
     elif [ -f "$example" ]; then put 644 "$example" "usr/share/doc/seedlinkd/$example"; fi
 done
+sed -i 's|](../../docs/|](../../|g' "$doc"/examples/*/README.md
 put_compressed usr/share/doc/seedlinkd/changelog.gz <<EOF
 seedlinkd ($version) unstable; urgency=medium
 
@@ -102,5 +121,11 @@ find "$tree" -exec touch -h -d "@$SOURCE_DATE_EPOCH" {} +
 mkdir -p out
 made=out/seedlinkd_${version}_amd64
 dpkg-deb --root-owner-group -Zxz --build "$tree" "$made.deb" >/dev/null
-(cd "$tree" && find etc usr -type f | sort | tar --owner=0 --group=0 --numeric-owner --no-recursion -cf - -T -) | gzip -9 -n >"$made.tar.gz"
+# The archive has one folder, with the same files, and folders with their modes, whatever the umask of who unpacks them.
+packed=seedlinkd-$version
+mkdir "$room/$packed"
+mv "$tree/etc" "$tree/usr" "$room/$packed"
+install -m 755 "$parts/install" "$room/$packed/install"
+find "$room/$packed" -exec touch -h -d "@$SOURCE_DATE_EPOCH" {} +
+(cd "$room" && find "$packed" | sort | tar --owner=0 --group=0 --numeric-owner --no-recursion -cf - -T -) | gzip -9 -n >"$made.tar.gz"
 ls -l "$made.deb" "$made.tar.gz" | awk '{ print $9, $5, "bytes" }'

@@ -1,5 +1,5 @@
 #!/bin/sh
-# Makes a release of the commit that is checked out: puts the archive of tools/package.sh into releases/, with its sum in SHA256SUMS
+# Makes a release of the commit that is checked out: puts the package and the archive of tools/package.sh into releases/, with their sums in SHA256SUMS
 # and, in release.txt, the version, the commit, the toolchain and a sum of the program's sources. It commits nothing.
 #
 #     tools/release.sh VERSION
@@ -31,11 +31,11 @@ program=crates/seedlinkd/out/seedlinkd
 tools/package.sh
 is_clean && [ "$(git rev-parse HEAD)" = "$commit" ] || fail "files were changed while the release was made"
 
-archive=seedlinkd_${version}_amd64.tar.gz
+made=seedlinkd_${version}_amd64
 mkdir -p releases
-rm -rf releases/.unpacked releases/seedlinkd_*.tar.gz
-cp "out/$archive" releases
-(cd releases && sha256sum "$archive" >SHA256SUMS)
+rm -rf releases/.unpacked releases/seedlinkd_*.tar.gz releases/seedlinkd_*.deb
+cp "out/$made.tar.gz" "out/$made.deb" releases
+(cd releases && sha256sum "$made.tar.gz" "$made.deb" >SHA256SUMS)
 printf 'version %s\ncommit %s\ntoolchain %s\nsources %s\n' "$version" "$commit" "$(rt version)" "$(cat "$program.sum")" >releases/release.txt
 cat releases/release.txt
 echo "release: tools/try_release.sh makes it again; to commit it: git add -A releases && git commit -m 'release: $version'"

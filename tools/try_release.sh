@@ -15,9 +15,10 @@ of_release() { sed -n "s/^$1 //p" "$top/releases/release.txt"; }
 
 [ "$*" = "" ] || [ "$*" = --anew ] || fail "tools/try_release.sh [--anew]"
 [ -f "$top/releases/release.txt" ] || fail "there is no release in releases"
-archive=seedlinkd_$(of_release version)_amd64.tar.gz
+# The archive, and since version 0.3.0 the package.
+names=$(sed 's/.*  //' "$top/releases/SHA256SUMS")
 commit=$(of_release commit)
-(cd "$top/releases" && sha256sum --status -c SHA256SUMS) || fail "the archive in releases is not the one of releases/SHA256SUMS"
+(cd "$top/releases" && sha256sum --status -c SHA256SUMS) || fail "what is in releases is not that of releases/SHA256SUMS"
 [ "$(rt version)" = "$(of_release toolchain)" ] || fail "it was made with $(of_release toolchain), and this is $(rt version)"
 
 room=$(mktemp -d)
@@ -37,10 +38,19 @@ fi
 "$clone/tools/package.sh" >/dev/null
 [ "$(cat "$clone/$program.sum")" = "$(of_release sources)" ] || fail "release.txt has another sum of sources than commit $commit"
 
-if cmp -s "$clone/out/$archive" "$top/releases/$archive"; then
-    echo "$archive was made again from commit $commit: the same bytes"
-    exit
-fi
+archive=
+for name in $names; do
+    if cmp -s "$clone/out/$name" "$top/releases/$name"; then
+        echo "$name was made again from commit $commit: the same bytes"
+    elif [ "${name%.deb}" = "$name" ]; then
+        archive=$name
+    else
+        echo "$name differs"
+        other=yes
+    fi
+done
+[ -n "$archive" ] || [ -z "${other:-}" ] || fail "the package differs, and the archive doesn't"
+[ -n "$archive" ] || exit 0
 cp "$clone/out/$archive" "$room/made.tar.gz"
 cp "$top/releases/$archive" "$room/released.tar.gz"
 cd "$room"
