@@ -123,6 +123,14 @@ SAID = [
 ]
 
 
+# Words of `install`, and what it says.
+NOT_INSTALLED = [
+    (["none"], "there is no folder none"),
+    (["root", "root"], "usage: ./install [--remove] [ROOT]"),
+    (["--purge"], "usage: ./install [--remove] [ROOT]"),
+]
+
+
 def text_of(*names):
     with open(os.path.join(*names), encoding="utf-8") as file:
         return file.read()
@@ -299,27 +307,22 @@ class Package(Made):
         self.assertEqual(self.install("--remove", "root"), (1, "install: nothing that install put there stands below %s/root\n" % os.getcwd()))
 
     @kit.limit(120)
-    @kit.rows([
-        ("no folder", ["none"], "install: there is no folder none\n"),
-        ("two folders", ["root", "root"], "install: usage: ./install [--remove] [ROOT]\n"),
-        ("an option", ["--purge"], "install: usage: ./install [--remove] [ROOT]\n"),
-        ("a program that does not run", ["root"],
-         "install: the program does not run here: it needs glibc 2.34 or later (Debian 12, Ubuntu 22.04, RHEL 9)\n"),
-    ])
-    def test_nothing_is_installed(self, words, wanted):
+    def test_nothing_is_installed(self):
         self.make()
         self.unpack()
         os.mkdir("root")
-        if "does not run" in wanted:
-            kit.write(self.folder + "/usr/bin/seedlinkd", "#!/bin/sh\nexit 127\n")
-        self.assertEqual(self.install(*words), (1, wanted))
+        for words, said in NOT_INSTALLED:
+            self.assertEqual(self.install(*words), (1, "install: %s\n" % said))
+        kit.write(self.folder + "/usr/bin/seedlinkd", "#!/bin/sh\nexit 127\n")
+        needs = "install: the program does not run here: it needs glibc 2.34 or later (Debian 12, Ubuntu 22.04, RHEL 9)\n"
+        self.assertEqual(self.install("root"), (1, needs))
         self.assertEqual(kit.files_below("root"), {})
+        self.cannot_write()
 
-    @kit.limit(120)
-    def test_a_folder_that_cannot_be_written(self):
-        self.make()
+    def cannot_write(self):
+        """Below a folder that can't be written nothing is changed."""
         self.unpack()
-        os.makedirs("root/usr")
+        os.mkdir("root/usr")
         for it in (os.getcwd(), os.path.dirname(os.getcwd()), self.folder):
             os.chmod(it, 0o755)
         os.chmod("root/usr", 0o555)
