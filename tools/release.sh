@@ -19,7 +19,7 @@ is_clean() { [ -z "$(git status --porcelain)" ]; }
 [ $# -eq 1 ] || fail "tools/release.sh VERSION"
 version=$(sed -n 's/^pub const VERSION: &str = "\([^ ]*\) .*";$/\1/p' crates/command_line/src/commands.rt)
 [ "$1" = "$version" ] || fail "the version of the sources is $version (VERSION in crates/command_line/src/commands.rt)"
-[ "$1" = "$(sed -n 's/^## //p' CHANGELOG.md | head -n 1)" ] || fail "the first version in CHANGELOG.md is another one"
+[ "$1" = "$(sed -n 's/^## \([^ ]*\).*/\1/p' CHANGELOG.md | head -n 1)" ] || fail "the first version in CHANGELOG.md is another one"
 is_clean || fail "the working tree is not clean: git status says what was changed"
 old=$(tools/attack.sh --old) || fail "attack/refused.txt could not be compared with the sources"
 [ -z "$old" ] || fail "lines of attack/refused.txt are older than their files; tools/attack.sh tries these crates again: $(echo $old)"
