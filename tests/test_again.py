@@ -66,6 +66,24 @@ class Again(kit.Test):
         self.fetch(behind, "GE_WLF", *into)
         self.assert_once(path, 105)
 
+    def test_a_hole_is_filled_by_the_recipe(self):
+        """That of OPERATING, from a server that has more than the hole at both ends."""
+        seconds = [record(it, start=(2024, 60, 0, it // 60, it % 60, 0)) for it in range(200)]
+        server = self.serve(CONFIG)
+        server.feed(*seconds[:100], *seconds[150:])
+        self.fetch(server, "GE_WLF", "--archive", "archive")
+        gaps = ["check", "archive", "--quiet", "--gaps"]
+        self.assertEqual(self.run_program(*gaps).printed, "gap GE WLF -- BHZ D 17091649000000 17091649500000 500000\n")
+        second = self.serve(CONFIG)
+        second.feed(*seconds[90:160])
+        recipe = [it for it in kit.text_of(kit.TREE + "/docs/OPERATING.md").splitlines() if it.endswith("--state hole.state")]
+        self.assertEqual(len(recipe), 1, recipe)
+        exchanged = {"GE_APE": "GE_WLF", "/archive": "archive", "127.0.0.1:18010": second.address}
+        ended = self.run_program(*(exchanged.get(it, it) for it in recipe[0].split()[1:]))
+        self.assertEqual(ended.status, 0, ended.all())
+        self.assert_once(DAY, 200)
+        self.assertEqual(self.run_program(*gaps).all(), "status 0")
+
     @kit.rows(INTO)
     def test_a_server_that_numbers_anew(self, into, path, _):
         server = self.server_of(10)

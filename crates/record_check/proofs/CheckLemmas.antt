@@ -12,12 +12,13 @@ use Rattle.feeder.specs.Feedings.{feed_read}
 use Rattle.record_check.specs.declared.finding.Finding.{Finding}
 use Rattle.record_check.specs.Findings.{count_read, finding_after, finding_of}
 use Rattle.record_check.specs.Listing.{Listed, Rules, count_after, file_text, first_fault, first_of, lines_from}
-use Rattle.record_check.specs.Listing.{listed_after, listing_of, nothing_listed, number_after, partial_line}
-use Rattle.record_check.specs.Listing.{refusal, said_lines, said_of, streams_after, streams_from, streams_text}
-use Rattle.record_check.specs.Listing.{verdict_by, verdict_of}
+use Rattle.record_check.specs.Listing.{listed_after, nothing_listed, number_after, partial_line, record_line}
+use Rattle.record_check.specs.Listing.{refusal, said_of, streams_from, streams_text, verdict_by, verdict_of}
+use Rattle.record_check.specs.Listing.{BeginsListing, WritesListing}
+use Rattle.record_check.specs.Listing.BeginsListing.{InFile, InStreams}
 use Rattle.record_check.specs.Checks.{Progress, begun_file, good_with, listed_of, piece_read, with_record}
 use Rattle.record_check.specs.Checks.{with_records}
-use Rattle.record_check.specs.Streams.{StreamValue}
+use Rattle.record_check.specs.Streams.{AreInOrder, StreamValue}
 use Rattle.record_check.proofs.PieceLemmas.{records_behind, with_records-append}
 
 -- ---- what is listed of records
@@ -68,14 +69,14 @@ good_rises good (Some fault) = omega arith
 
 -- what is listed of one record more
 abbrev lines_of : Rules → Progress → List ℕ → List ℕ
-lines_of r p bytes = said_lines r.options p.streams (number_after p.count) (said_of r bytes)
+lines_of r p bytes = record_line r.options (number_after p.count) (said_of r bytes)
 
 lines-with_records : (r : Rules) (p : Progress) (records : List (List ℕ))
-    → (with_records r p records).lines ≡ p.lines ++ lines_from r p.streams p.count records
+    → (with_records r p records).lines ≡ p.lines ++ lines_from r p.count records
 lines-with_records r p [] = sym (append-nil p.lines)
 lines-with_records r p (bytes ∷ records) = lines-with_records r (with_record r p bytes) records
     ∙ append_assoc p.lines (lines_of r p bytes)
-    (lines_from r (streams_after r.options p.streams (said_of r bytes)) (number_after p.count) records)
+    (lines_from r (number_after p.count) records)
 
 count-with_records : (r : Rules) (p : Progress) (records : List (List ℕ))
     → (with_records r p records).count ≡ count_after p.count records
@@ -101,14 +102,13 @@ with_records-behind r done p (bytes ∷ records) =
     ∙ with_records-behind r done (with_record r p bytes) records
 
 -- The lines of more records begin with those of the first.
-lines_begin : (r : Rules) (streams : List StreamValue) (count : ℕ) (records more : List (List ℕ))
-    → (tail : List ℕ) × (lines_from r streams count (records ++ more) ≡ lines_from r streams count records ++ tail)
-lines_begin r streams count [] more = (lines_from r streams count more, refl)
-lines_begin r streams count (bytes ∷ records) more =
-    let after = streams_after r.options streams (said_of r bytes) in
-    let t = lines_begin r after (number_after count) records more in
-    let lines = said_lines r.options streams (number_after count) (said_of r bytes) in
-    (t.0, ap (λ l. lines ++ l) t.1 ∙ sym (append_assoc lines (lines_from r after (number_after count) records) t.0))
+lines_begin : (r : Rules) (count : ℕ) (records more : List (List ℕ))
+    → (tail : List ℕ) × (lines_from r count (records ++ more) ≡ lines_from r count records ++ tail)
+lines_begin r count [] more = (lines_from r count more, refl)
+lines_begin r count (bytes ∷ records) more =
+    let t = lines_begin r (number_after count) records more in
+    let line = record_line r.options (number_after count) (said_of r bytes) in
+    (t.0, ap (λ l. line ++ l) t.1 ∙ sym (append_assoc line (lines_from r (number_after count) records) t.0))
 
 -- ---- the check under way
 
@@ -181,7 +181,7 @@ rest_line r n = partial_line r.options n
 
 lines_so_far : (r : Rules) (l : Listed) (left left' written written' : Option (List ℕ)) (held : List ℕ) (p : Progress)
     → (s : Stands r l left left' written written' held p)
-    → s.done ++ p.lines ≡ lines_from r l.streams l.count (feed_of s.consumed).records
+    → s.done ++ p.lines ≡ lines_from r l.count (feed_of s.consumed).records
 lines_so_far r l left left' written written' held p s = ap (λ (q : Progress). q.lines) s.is_listed
     ∙ lines-with_records r (begun_file l) (feed_of s.consumed).records
 
@@ -200,12 +200,12 @@ listing_begins : (r : Rules) (l : Listed) (bytes more : List ℕ) (written writt
 listing_begins r l bytes more written written' held p s =
     let whole = ap feed_of s.consumes ∙ read_on s.consumed more (feed_of s.consumed).rest refl in
     let after = piece_read (feed_of s.consumed).rest more in
-    let t = lines_begin r l.streams l.count (feed_of s.consumed).records after.records in
+    let t = lines_begin r l.count (feed_of s.consumed).records after.records in
     let end = rest_line r (length after.rest) in (
       t.0 ++ end,
-      ap (λ (f : FeedRead). lines_from r l.streams l.count f.records ++ rest_line r (length f.rest)) whole
+      ap (λ (f : FeedRead). lines_from r l.count f.records ++ rest_line r (length f.rest)) whole
           ∙ ap (λ x. x ++ end) t.1
-          ∙ append_assoc (lines_from r l.streams l.count (feed_of s.consumed).records) t.0 end
+          ∙ append_assoc (lines_from r l.count (feed_of s.consumed).records) t.0 end
           ∙ ap (λ x. x ++ (t.0 ++ end)) (sym (lines_so_far r l (Some bytes) (Some more) written written' held p s)),
     )
 
@@ -339,60 +339,54 @@ always (Err e) Q q = q
 
 -- ---- one file and its streams
 
--- the lines of one file, and then those of the streams
-one_file : (r : Rules) (bytes : List ℕ) → listing_of r bytes
-    ≡ file_text r nothing_listed bytes ++ streams_text r.options (listed_after r nothing_listed bytes).streams
-one_file r bytes = refl
-
 -- nothing is written of an unknown text
 pub begun_nothing : (r : Rules) (left written : Option (List ℕ))
-    → IfSome left (λ bytes. AppendsBeginning written written (listing_of r bytes))
+    → IfSome left (λ bytes. BeginsListing r bytes written written)
 begun_nothing r None written = tt
-begun_nothing r (Some bytes) written = ([], listing_of r bytes, refl, Appends-nil written)
+begun_nothing r (Some bytes) written =
+    InFile ([], file_text r nothing_listed bytes, refl, Appends-nil written)
 
 -- a beginning of the file's lines is one of the listing
 pub begun_file_alone : (r : Rules) (l : Listed) (left written written' : Option (List ℕ)) → l ≡ nothing_listed
     → IfSome left (λ bytes. AppendsBeginning written written' (file_text r l bytes))
-    → IfSome left (λ bytes. AppendsBeginning written written' (listing_of r bytes))
+    → IfSome left (λ bytes. BeginsListing r bytes written written')
 begun_file_alone r l None written written' is b = tt
 begun_file_alone r l (Some bytes) written written' is b =
-    let end = streams_text r.options (listed_after r nothing_listed bytes).streams in (
-      b.0,
-      b.1 ++ end,
-      ap (λ x. x ++ end) (ap (λ k. file_text r k bytes) (sym is) ∙ b.2) ∙ append_assoc b.0 b.1 end,
-      b.3,
-    )
+    InFile (subst (λ k. AppendsBeginning written written' (file_text r k bytes)) is b)
 
 -- with the lines of the streams it is the listing
-pub whole_file : (r : Rules) (l after : Listed) (left written written' written'' : Option (List ℕ))
+pub whole_file : (r : Rules) (l after : Listed) (streams : List StreamValue)
+    (left written written' written'' : Option (List ℕ))
     → l ≡ nothing_listed → IfSome left (λ bytes. Appends written written' (file_text r l bytes))
-    → IfSome left (λ bytes. after ≡ listed_after r l bytes)
-    → Appends written' written'' (streams_text r.options after.streams)
-    → IfSome left (λ bytes. Appends written written'' (listing_of r bytes))
-whole_file r l after None written written' written'' is first listed last = tt
-whole_file r l after (Some bytes) written written' written'' is first listed last =
-    let end = ap (λ (k : Listed). streams_text r.options k.streams)
-    (listed ∙ ap (λ k. listed_after r k bytes) is) in
-    subst (λ x. Appends written written'' (x ++ streams_text r.options (listed_after r nothing_listed bytes).streams))
-    (ap (λ k. file_text r k bytes) is)
-    (Appends-trans written written' written'' (file_text r l bytes)
-    (streams_text r.options (listed_after r nothing_listed bytes).streams) first
-    (subst (Appends written' written'') end last))
+    → IfSome left (λ bytes. after ≡ listed_after r l bytes) → AreInOrder after.streams streams
+    → Appends written' written'' (streams_text r.options streams)
+    → IfSome left (λ bytes. WritesListing r bytes written written'')
+whole_file r l after streams None written written' written'' is first listed order end = tt
+whole_file r l after streams (Some bytes) written written' written'' is first listed order end =
+    record {
+      streams = streams;
+      in_order = subst (λ (k : Listed). AreInOrder k.streams streams)
+          (listed ∙ ap (λ k. listed_after r k bytes) is) order;
+      text = Appends-trans written written' written'' (file_text r nothing_listed bytes)
+          (streams_text r.options streams)
+          (subst (λ k. Appends written written' (file_text r k bytes)) is first) end;
+    }
 
 -- and with a beginning of them it is a beginning
-pub ended_file : (r : Rules) (l after : Listed) (left written written' written'' : Option (List ℕ))
+pub ended_file : (r : Rules) (l after : Listed) (streams : List StreamValue)
+    (left written written' written'' : Option (List ℕ))
     → l ≡ nothing_listed → IfSome left (λ bytes. Appends written written' (file_text r l bytes))
-    → IfSome left (λ bytes. after ≡ listed_after r l bytes)
-    → AppendsBeginning written' written'' (streams_text r.options after.streams)
-    → IfSome left (λ bytes. AppendsBeginning written written'' (listing_of r bytes))
-ended_file r l after None written written' written'' is first listed last = tt
-ended_file r l after (Some bytes) written written' written'' is first listed last =
-    let text = file_text r l bytes in
-    let end = ap (λ (k : Listed). streams_text r.options k.streams)
-    (listed ∙ ap (λ k. listed_after r k bytes) is) in (
-      text ++ last.0,
-      last.1,
-      ap (λ k. file_text r k bytes ++ streams_text r.options (listed_after r nothing_listed bytes).streams) (sym is)
-          ∙ ap (λ x. text ++ x) (sym end ∙ last.2) ∙ sym (append_assoc text last.0 last.1),
-      Appends-trans written written' written'' text last.0 first last.3,
+    → IfSome left (λ bytes. after ≡ listed_after r l bytes) → AreInOrder after.streams streams
+    → AppendsBeginning written' written'' (streams_text r.options streams)
+    → IfSome left (λ bytes. BeginsListing r bytes written written'')
+ended_file r l after streams None written written' written'' is first listed order end = tt
+ended_file r l after streams (Some bytes) written written' written'' is first listed order end =
+    let text = file_text r nothing_listed bytes in
+    InStreams streams
+    (subst (λ (k : Listed). AreInOrder k.streams streams) (listed ∙ ap (λ k. listed_after r k bytes) is) order) (
+      text ++ end.0,
+      end.1,
+      ap (λ x. text ++ x) end.2 ∙ sym (append_assoc text end.0 end.1),
+      Appends-trans written written' written'' text end.0
+          (subst (λ k. Appends written written' (file_text r k bytes)) is first) end.3,
     )

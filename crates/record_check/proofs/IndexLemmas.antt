@@ -1,10 +1,10 @@
 -- An index of streams by their names, one record after the other.
 use Rattle.std.proofs.Common.{◌≡◌, ℕ, zero, ◌+◌, ◌<◌, suc, Bool, ◌&&◌, true, false, List, [], ◌∷◌, ◌++◌}
-use Rattle.std.proofs.Common.{length, get_or, map, set, Option, Some, None, IfSome, refl, sym, ap, ap₂, ◌∙◌, subst}
+use Rattle.std.proofs.Common.{length, get_or, map, set, Option, Some, None, IfSome, Result, Ok, Err, refl, sym, ap, ap₂, ◌∙◌, subst}
 use Rattle.std.proofs.Common.{arith}
 use Rattle.std.proofs.Common.{◌==◌, eqb-true}
 use Rattle.std.proofs.Common.{inl, inr, length-append}
-use Rattle.std.specs.Prelude.{cond, if◌then◌else◌, ⊤}
+use Rattle.std.specs.Prelude.{cond, if◌then◌else◌, ⊤, OnOk, OnErr}
 use Rattle.std.proofs.lemmas.Bool.Decides.{leb_tells}
 use Rattle.std.specs.Str.{bytes_eq}
 use Rattle.std.specs.HashMap.{IsEmpty, IsUnchanged, Updates}
@@ -19,9 +19,8 @@ use Rattle.code_numbers.specs.Spelling.{spelled}
 use Rattle.code_numbers.proofs.SpellingLemmas.{equal_spelled}
 use Rattle.record_check.specs.Index.{StreamPlaces, name_of, names_eq, place_in}
 use Rattle.record_check.specs.Index.{AreCodes, Finds, IsAt, IsCode}
-use Rattle.record_check.specs.Streams.{StreamValue, begun, gone_on, is_known, is_of, on_if, seam_in, seam_of}
-use Rattle.record_check.specs.Streams.{streams_with}
-use Rattle.record_check.specs.declared.streams.Seam.TheVariants.{Even}
+use Rattle.record_check.specs.Streams.{StreamValue, begun, gone_on, is_known, is_of, on_if, streams_with}
+use Rattle.record_check.specs.Streams.{AreInOrder, IsInOrder}
 use Rattle.record_check.specs.Words.{kind_letter}
 use Rattle.record_check.specs.declared.stream_name.StreamName.{StreamName}
 
@@ -286,36 +285,48 @@ found_nowhere m empty =
           (sym empty) tt;
     }
 
--- ---- what lies before a record
+-- ---- streams in order
 
--- What lies between a record and the last one of the one stream that has it.
-seam_at : (x : Facts) (ss : List StreamValue) (k : ℕ) (d : StreamValue) → k < length ss
-    → is_of x (get_or ss k d) ≡ true
-    → ((j : ℕ) (e : StreamValue) → j < length ss → is_of x (get_or ss j e) ≡ true → j ≡ k)
-    → seam_in ss x ≡ seam_of (get_or ss k d) x.start
-seam_at x [] k d within has one = absurd (omega (arith, within))
-seam_at x (s ∷ ss) zero d within has one = rw has refl
-seam_at x (s ∷ ss) (suc k) d within has one =
-    rw (if_false (is_of x s) (λ is. let no = one 0 s (omega arith) is in absurd (omega (arith, no))))
-    (seam_at x ss k d (omega (arith, within)) has
-    (λ j e h is. let same = one (suc j) e (omega (arith, h)) is in omega (arith, same)))
+-- a stream in order has its codes
+kept_in_order : (y : Facts) (s s' : StreamValue) → IsInOrder s s' → is_of y s' ≡ is_of y s
+kept_in_order y s s' order = ap (is_of y) order.same
 
-pub found_seam : (m : StreamPlaces) (ss : List StreamValue) (x : Facts) (k : ℕ) (s : StreamValue) → Finds m ss
-    → AreCodes x → place_in m x ≡ Some k → s ≡ get_or ss k s → seam_of s x.start ≡ seam_in ss x
-found_seam m ss x k s finds are found at =
+still_in_order : (y : Facts) (ss ss' : List StreamValue) (o : Option ℕ) → AreInOrder ss ss' → IfSome o (IsAt y ss)
+    → IfSome o (IsAt y ss')
+still_in_order y ss ss' None order at = tt
+still_in_order y ss ss' (Some k) order at =
+    record {
+      within = subst (λ n. k < n) (sym order.count) at.within;
+      has = λ d. kept_in_order y _ _ (order.each k d at.within) ∙ at.has d;
+    }
+
+-- the index finds streams that were put in order
+pub found_in_order : (m : StreamPlaces) (ss ss' : List StreamValue) → Finds m ss → AreInOrder ss ss' → Finds m ss'
+found_in_order m ss ss' finds order =
+    record {
+      one = λ y are k d within is. let here : k < length ss = subst (λ n. k < n) order.count within in
+          finds.one y are k d here (sym (kept_in_order y _ _ (order.each k d here)) ∙ is);
+      there = λ y are. still_in_order y ss ss' (place_in m y) order (finds.there y are);
+    }
+
+-- nothing changes where the stream at a place stays
+found_kept : (m : StreamPlaces) (ss zs : List StreamValue) (k : ℕ) (s t : StreamValue) → Finds m ss
+    → k < length ss → s ≡ get_or ss k s → t ≡ s → zs ≡ set ss k t → Finds m zs
+found_kept m ss zs k s t finds within at same is =
+    subst (Finds m) (sym (is ∙ ap (set ss k) (same ∙ at) ∙ set_there ss k s within)) finds
+  where
+    set_there : (xs : List StreamValue) (j : ℕ) (d : StreamValue) → j < length xs → set xs j (get_or xs j d) ≡ xs
+    set_there [] j d inside = absurd (omega (arith, inside))
+    set_there (x ∷ xs) zero d inside = refl
+    set_there (x ∷ xs) (suc j) d inside = ap (λ l. x ∷ l) (set_there xs j d (omega (arith, inside)))
+
+-- one record more of a known stream, if there is memory for it
+pub found_either : {T E : Type 0} (r : Result T E) (m : StreamPlaces) (ss zs : List StreamValue) (x : Facts) (k : ℕ)
+    (s t : StreamValue) → Finds m ss → AreCodes x → place_in m x ≡ Some k → s ≡ get_or ss k s
+    → OnOk r (t ≡ gone_on x s) → OnErr r (t ≡ s) → zs ≡ set ss k t
+    → OnOk r (zs ≡ streams_with ss x) × Finds m zs
+found_either (Ok v) m ss zs x k s t finds are found at gone kept is =
+    let with = found_with m ss zs x k s t finds are found at gone is in (with.0, with.1)
+found_either (Err e) m ss zs x k s t finds are found at gone kept is =
     let here : IsAt x ss k = found_at m ss x k finds are found in
-    ap (λ t. seam_of t x.start) at
-    ∙ sym (seam_at x ss k s here.within (here.has s)
-    (λ j e h is. some_same j k (sym (finds.one x are j e h is) ∙ found)))
-
-seam_none : (x : Facts) (ss : List StreamValue)
-    → ((j : ℕ) (d : StreamValue) → j < length ss → is_of x (get_or ss j d) ≡ false) → seam_in ss x ≡ Even
-seam_none x [] none = refl
-seam_none x (s ∷ ss) none =
-    rw (none 0 s (omega arith)) (seam_none x ss (λ j d h. none (suc j) d (omega (arith, h))))
-
--- Nothing lies before a record that is not found.
-pub begun_seam : (m : StreamPlaces) (ss : List StreamValue) (x : Facts) → Finds m ss → AreCodes x
-    → place_in m x ≡ None → Even ≡ seam_in ss x
-begun_seam m ss x finds are none =
-    sym (seam_none x ss (λ j d h. if_false _ (λ is. some_none j (sym (finds.one x are j d h is) ∙ none))))
+    (tt, found_kept m ss zs k s t finds here.within at kept is)

@@ -4,3 +4,4 @@ mod IndexLemmas
 mod TextLemmas
 mod PieceLemmas
 mod StreamLemmas
+mod OrderLemmas

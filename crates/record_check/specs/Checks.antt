@@ -11,7 +11,7 @@ use Rattle.record_check.specs.declared.fault.FileFault.{FileFault}
 use Rattle.record_check.specs.declared.listing.Refused.{Refused}
 use Rattle.record_check.specs.declared.options.ListingOptions.{ListingOptions}
 use Rattle.record_check.specs.Streams.{StreamValue}
-use Rattle.record_check.specs.Listing.{Listed, Rules, first_of, number_after, refusal, said_lines, said_of}
+use Rattle.record_check.specs.Listing.{Listed, Rules, first_of, number_after, record_line, refusal, said_of}
 use Rattle.record_check.specs.Listing.{streams_after}
 
 -- why a check stopped, by the counts of the reader's failures and calls and of the writer's failures and empty writes,
@@ -54,7 +54,7 @@ with_said options p said =
       count = number_after p.count;
       good = good_with p.good (first_of p.fault (refusal said));
       fault = first_of p.fault (refusal said);
-      lines = p.lines ++ said_lines options p.streams (number_after p.count) said;
+      lines = p.lines ++ record_line options (number_after p.count) said;
       streams = streams_after options p.streams said;
     }
 

@@ -8,6 +8,8 @@ use Rattle.protocol.specs.declared.reason.Reason.TheVariants as reason
 use Rattle.protocol.specs.Reason.{name_of, number_of}
 use Rattle.protocol.specs.Record.{Facts, header_of, record_reason}
 use Rattle.protocol.specs.Streams.{feed_of}
+use Rattle.std.specs.Io.KnownBytes.{Appends}
+use Rattle.sl_io.specs.Known.{AppendsBeginning}
 use Rattle.record_check.specs.declared.fault.FileFault.{FileFault}
 use Rattle.record_check.specs.declared.fault.FileFault.TheVariants.{Record, Station, Partial}
 use Rattle.record_check.specs.declared.listing.Refused.{Refused}
@@ -16,9 +18,10 @@ use Rattle.record_check.specs.declared.options.ListingOptions.{ListingOptions}
 use Rattle.record_check.specs.declared.options.Times.{Times}
 pub use Rattle.record_check.specs.Words.{kind_letter}
 use Rattle.record_check.specs.Words.{duration_text, shown_byte, stream_text, time_text, word_text}
-use Rattle.record_check.specs.Streams.{StreamValue, seam_in, streams_with, ticks_after}
-use Rattle.record_check.specs.declared.streams.Seam.{Seam}
-use Rattle.record_check.specs.declared.streams.Seam.TheVariants.{Even, Gap, Overlap}
+use Rattle.record_check.specs.Streams.{SeamCountValue, StreamValue, seam_count, seams_of, streams_with}
+use Rattle.record_check.specs.Streams.{AreInOrder, ticks_after}
+use Rattle.record_check.specs.declared.runs.Seam.{Seam}
+use Rattle.record_check.specs.declared.runs.Seam.TheVariants.{Even, Gap, Overlap, Twice}
 
 -- ---- what is asked
 
@@ -101,23 +104,36 @@ count_after count (bytes ∷ records) = count_after (number_after count) records
 
 -- ---- the lines of gaps and overlaps
 
--- the stream of a record, from when to when, how long that is, and the line's end
-abbrev pub span_text : Times → Facts → (from to : ℤ) → List ℕ
-span_text times x from to =
-    stream_text x.network x.station x.location x.channel ++ (word_text (kind_letter x.kind ∷ [])
+-- a stream, from when to when, how long that is, and the line's end
+abbrev pub span_text : Times → StreamValue → (from to : ℤ) → List ℕ
+span_text times s from to =
+    stream_text s.network s.station s.location s.channel ++ (word_text (kind_letter s.kind ∷ [])
     ++ (word_text (time_text times from) ++ (word_text (time_text times to)
     ++ (duration_text times (ticks_after from to) ++ 10 ∷ []))))
 
--- the line of what lies before a record
-abbrev pub seam_text : Times → Facts → Seam → List ℕ
-seam_text times x Even = []
-seam_text times x (Gap from to) = codes "gap " ++ span_text times x from to
-seam_text times x (Overlap from to) = codes "overlap " ++ span_text times x from to
+-- the line of what lies between runs of a stream
+abbrev pub seam_text : Times → StreamValue → Seam → List ℕ
+seam_text times s Even = []
+seam_text times s (Gap from to) = codes "gap " ++ span_text times s from to
+seam_text times s (Overlap from to) = codes "overlap " ++ span_text times s from to
+seam_text times s (Twice from to) = codes "twice " ++ span_text times s from to
 
--- the same, if it is asked for
-abbrev pub seam_line : ListingOptions → List StreamValue → Result Facts Refused → List ℕ
-seam_line options streams (Ok x) = if options.has_gaps then seam_text options.times x (seam_in streams x) else []
-seam_line options streams (Err fault) = []
+abbrev pub seam_lines : Times → StreamValue → List Seam → List ℕ
+seam_lines times s [] = []
+seam_lines times s (seam ∷ seams) = seam_text times s seam ++ seam_lines times s seams
+
+-- those of a stream, whose runs are in order
+abbrev pub gap_lines : Times → StreamValue → List ℕ
+gap_lines times s = seam_lines times s (seams_of s.runs)
+
+-- those of streams
+abbrev pub all_gap_lines : Times → List StreamValue → List ℕ
+all_gap_lines times [] = []
+all_gap_lines times (s ∷ streams) = gap_lines times s ++ all_gap_lines times streams
+
+-- the same, if they are asked for
+abbrev pub gaps_text : ListingOptions → List StreamValue → List ℕ
+gaps_text options streams = if options.has_gaps then all_gap_lines options.times streams else []
 
 -- ---- the lines of streams
 
@@ -139,11 +155,16 @@ streams_from r streams [] = streams
 streams_from r streams (bytes ∷ records) =
     streams_from r (streams_after r.options streams (said_of r bytes)) records
 
--- a stream's type, how many records it has, its earliest start and latest end, and its gaps and overlaps
+-- how many gaps and overlaps
+abbrev pub count_text : SeamCountValue → List ℕ
+count_text c = word_text (decimal c.gaps) ++ decimal c.overlaps
+
+-- a stream's type, how many records it has, its earliest start and latest end, and how many gaps and overlaps its runs
+-- have, which are in order
 abbrev pub summary_text : Times → StreamValue → List ℕ
 summary_text times s =
     word_text (kind_letter s.kind ∷ []) ++ word_text (decimal s.records) ++ word_text (time_text times s.first)
-    ++ word_text (time_text times s.last) ++ word_text (decimal s.gaps) ++ decimal s.overlaps
+    ++ word_text (time_text times s.last) ++ count_text (seam_count s.runs)
 
 -- the line of a stream, and its end
 abbrev pub stream_line : Times → StreamValue → List ℕ
@@ -154,22 +175,21 @@ abbrev pub stream_lines : Times → List StreamValue → List ℕ
 stream_lines times [] = []
 stream_lines times (s ∷ streams) = stream_line times s ++ stream_lines times streams
 
--- those of a list of files, if they are asked for
+-- the same, if they are asked for
+abbrev pub summaries_text : ListingOptions → List StreamValue → List ℕ
+summaries_text options streams = if options.has_summary then stream_lines options.times streams else []
+
+-- those of the streams of a list of files, in order: of gaps and overlaps, and of streams
 abbrev pub streams_text : ListingOptions → List StreamValue → List ℕ
-streams_text options streams = if options.has_summary then stream_lines options.times streams else []
+streams_text options streams = gaps_text options streams ++ summaries_text options streams
 
 -- ---- the lines of records
 
--- the lines of a record with that number: of what lies between it and the last one of its stream, and its own
-abbrev pub said_lines : ListingOptions → List StreamValue → (number : ℕ) → Result Facts Refused → List ℕ
-said_lines options streams number said = seam_line options streams said ++ record_line options number said
-
--- the lines of records, which come after so many others and the streams of those
-abbrev pub lines_from : Rules → List StreamValue → (count : ℕ) → List (List ℕ) → List ℕ
-lines_from r streams count [] = []
-lines_from r streams count (bytes ∷ records) =
-    said_lines r.options streams (number_after count) (said_of r bytes)
-    ++ lines_from r (streams_after r.options streams (said_of r bytes)) (number_after count) records
+-- the lines of records, which come after so many others
+abbrev pub lines_from : Rules → (count : ℕ) → List (List ℕ) → List ℕ
+lines_from r count [] = []
+lines_from r count (bytes ∷ records) =
+    record_line r.options (number_after count) (said_of r bytes) ++ lines_from r (number_after count) records
 
 -- ---- the whole
 
@@ -201,16 +221,20 @@ listed_after r l bytes =
 -- the lines of a file: those of its records, and of what is left over
 abbrev pub file_text : Rules → Listed → List ℕ → List ℕ
 file_text r l bytes =
-    lines_from r l.streams l.count (feed_of bytes).records ++ partial_line r.options (length (feed_of bytes).rest)
+    lines_from r l.count (feed_of bytes).records ++ partial_line r.options (length (feed_of bytes).rest)
 
--- the listing of files, one after the other: the lines of each, and then those of the streams
-abbrev pub files_text : Rules → Listed → List (List ℕ) → List ℕ
-files_text r l [] = streams_text r.options l.streams
-files_text r l (bytes ∷ files) = file_text r l bytes ++ files_text r (listed_after r l bytes) files
+-- The listing of the bytes of one file was written: its lines, and those of its streams, in order.
+pub record WritesListing (r : Rules) (bytes : List ℕ) (written written' : Option (List ℕ)) : Type 0 where
+  pub streams : List StreamValue
+  pub in_order : AreInOrder (listed_after r nothing_listed bytes).streams streams
+  pub text : Appends written written' (file_text r nothing_listed bytes ++ streams_text r.options streams)
 
--- the listing of the bytes of one file
-abbrev pub listing_of : Rules → List ℕ → List ℕ
-listing_of r bytes = files_text r nothing_listed (bytes ∷ [])
+-- A beginning of it was written.
+pub data BeginsListing (r : Rules) (bytes : List ℕ) (written written' : Option (List ℕ)) : Type 0 where
+  InFile : AppendsBeginning written written' (file_text r nothing_listed bytes) → BeginsListing r bytes written written'
+  InStreams : (streams : List StreamValue) → AreInOrder (listed_after r nothing_listed bytes).streams streams
+      → AppendsBeginning written written' (file_text r nothing_listed bytes ++ streams_text r.options streams)
+      → BeginsListing r bytes written written'
 
 -- ---- the verdict
 

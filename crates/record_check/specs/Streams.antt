@@ -1,13 +1,15 @@
--- The streams of a file of records: what each has, and where it has gaps and overlaps.
+-- The streams of files of records: what each has, and where it has gaps and overlaps in the order of time.
 -- SEED Reference Manual 2.4, chapter 8, for what a record says. A stream is the records of one type of a channel.
-use Rattle.std.specs.Prelude.{ℕ, ℤ, pos, negsuc, ◌-ℤ◌, ◌+◌, ◌-◌, ◌*◌, ◌^◌, ◌==◌, ◌&&◌, Bool, true, nat_lt, int_lt, min}
-use Rattle.std.specs.Prelude.{if◌then◌else◌, List, [], ◌∷◌, ◌++◌, map}
+use Rattle.std.specs.Prelude.{◌≡◌, ◌<◌, ℕ, ℤ, pos, negsuc, ◌-ℤ◌, ◌+◌, ◌-◌, ◌*◌, ◌^◌, ◌==◌, ◌&&◌, ◌||◌, not, Bool, true, false}
+use Rattle.std.specs.Prelude.{nat_lt, int_lt, min, if◌then◌else◌, List, [], ◌∷◌, ◌++◌, map, length, Option, Some, None}
+use Rattle.std.specs.Prelude.{get_or, slice_get, slice_set, IsPermutation, IsSortedByKey}
 use Rattle.std.specs.List.{list_any}
+use Rattle.std.specs.Ordering.{int_cmp}
 use Rattle.std.specs.Str.{bytes_eq}
 use Rattle.protocol.specs.declared.record.Kind.{Kind}
 use Rattle.protocol.specs.Record.{Facts}
-use Rattle.record_check.specs.declared.streams.Seam.{Seam}
-use Rattle.record_check.specs.declared.streams.Seam.TheVariants.{Even, Gap, Overlap}
+use Rattle.record_check.specs.declared.runs.Seam.{Seam}
+use Rattle.record_check.specs.declared.runs.Seam.TheVariants.{Even, Gap, Overlap, Twice}
 use Rattle.record_check.specs.Words.{kind_letter}
 
 -- ---- gaps and overlaps
@@ -38,14 +40,45 @@ is_longer e ticks = nat_lt (ticks_after e.start e.stop) (2 * e.samples * ticks)
 abbrev pub is_gap : Extent → ℤ → Bool
 is_gap e start = is_longer e (ticks_after e.stop start)
 
+-- by how many ticks it leaves a gap
+abbrev pub missing_before : Extent → ℤ → ℕ
+missing_before e start = if is_gap e start then ticks_after e.stop start else 0
+
 -- It starts more than half a sample before that end.
 abbrev pub is_overlap : Extent → ℤ → Bool
 is_overlap e start = is_longer e (ticks_after start e.stop)
 
+-- ---- runs
+
+-- A run: records of a stream that came one after the other, each where the one before it ends, within half a sample.
+-- Where the first starts, and the last.
+pub record RunValue : Type 0 where
+  pub start : ℤ
+  pub latest : Extent
+
+-- the run that begins with a record
+abbrev pub run_of : Facts → RunValue
+run_of x = record { start = x.start; latest = extent_of x }
+
+-- A record that starts then goes on with a run: it leaves no gap, and does not overlap the last one. Only records of
+-- data have samples at a rate; between others there are neither gaps nor overlaps.
+abbrev pub goes_on : (is_data : Bool) → RunValue → ℤ → Bool
+goes_on is_data r start = not (is_data && (is_gap r.latest start || is_overlap r.latest start))
+
+-- one record more goes on with the last run if there is one, or begins one
+abbrev pub runs_behind : (is_data : Bool) → Facts → List RunValue → (last : Option RunValue) → List RunValue
+runs_behind is_data x runs None = runs ++ run_of x ∷ []
+runs_behind is_data x runs (Some r) =
+    if goes_on is_data r x.start then slice_set runs (length runs - 1) (record r { latest = extent_of x })
+    else runs ++ run_of x ∷ []
+
+abbrev pub runs_with : (is_data : Bool) → Facts → List RunValue → List RunValue
+runs_with is_data x runs = runs_behind is_data x runs (slice_get runs (length runs - 1))
+
 -- ---- streams
 
--- The codes and the type of a stream; how many records it has, the earliest start and the latest end; how many gaps and
--- overlaps there are between a record and the next one; and the last record. Counts end at 2^64 - 1.
+-- The codes and the type of a stream; how many records it has, at most 2^64 - 1, the earliest start and the latest end;
+-- and its runs, as they came.
 pub record StreamValue : Type 0 where
   pub network : List ℕ
   pub station : List ℕ
@@ -55,9 +88,7 @@ pub record StreamValue : Type 0 where
   pub records : ℕ
   pub first : ℤ
   pub last : ℤ
-  pub gaps : ℕ
-  pub overlaps : ℕ
-  pub latest : Extent
+  pub runs : List RunValue
 
 -- The record is one of the stream.
 abbrev pub is_of : Facts → StreamValue → Bool
@@ -65,18 +96,9 @@ is_of x s =
     bytes_eq s.network x.network && bytes_eq s.station x.station && bytes_eq s.location x.location
     && bytes_eq s.channel x.channel && (kind_letter s.kind == kind_letter x.kind)
 
--- It has data (68, D), samples at a rate. Records of other types have no rate, or no samples: between them no gaps and
--- overlaps are counted.
+-- It has data (68, D).
 abbrev pub is_data : StreamValue → Bool
 is_data s = kind_letter s.kind == 68
-
--- A record of the stream that starts then leaves a gap.
-abbrev pub has_gap_at : StreamValue → ℤ → Bool
-has_gap_at s start = is_data s && is_gap s.latest start
-
--- It overlaps the last one.
-abbrev pub has_overlap_at : StreamValue → ℤ → Bool
-has_overlap_at s start = is_data s && is_overlap s.latest start
 
 abbrev pub earlier : ℤ → ℤ → ℤ
 earlier a b = if int_lt b a then b else a
@@ -100,9 +122,7 @@ begun x =
       records = 1;
       first = x.start;
       last = x.stop;
-      gaps = 0;
-      overlaps = 0;
-      latest = extent_of x;
+      runs = run_of x ∷ [];
     }
 
 -- with one record more
@@ -112,9 +132,7 @@ gone_on x s =
       records = more_if true s.records;
       first = earlier s.first x.start;
       last = later s.last x.stop;
-      gaps = more_if (has_gap_at s x.start) s.gaps;
-      overlaps = more_if (has_overlap_at s x.start) s.overlaps;
-      latest = extent_of x;
+      runs = runs_with (is_data s) x s.runs;
     }
 
 -- the same, if the record is one of it
@@ -129,16 +147,74 @@ is_known x streams = list_any (is_of x) streams
 abbrev pub streams_with : List StreamValue → Facts → List StreamValue
 streams_with streams x = if is_known x streams then map (on_if x) streams else streams ++ begun x ∷ []
 
--- ---- what lies between two records
+-- ---- in the order of time
 
--- between the last record of a stream and one that starts then
-unfoldable pub seam_of : StreamValue → ℤ → Seam
-seam_of s start =
-    if has_gap_at s start then Gap s.latest.stop start
-    else if has_overlap_at s start then Overlap start s.latest.stop
+-- The second is the first stream with its runs in the order of their starts.
+pub record IsInOrder (s s' : StreamValue) : Type 0 where
+  pub same : s' ≡ record s { runs = s'.runs }
+  pub moved : IsPermutation s.runs s'.runs
+  pub sorted : IsSortedByKey (λ (r : RunValue). r.start) int_cmp s'.runs
+
+-- Each of the second streams is that of the first, in order.
+pub record AreInOrder (streams streams' : List StreamValue) : Type 0 where
+  pub count : length streams' ≡ length streams
+  pub each : (k : ℕ) (d : StreamValue) → k < length streams
+      → IsInOrder (get_or streams k d) (get_or streams' k d)
+
+-- what a run and the records before it have both, which end at `reached`: a part of the run, or all of it
+abbrev pub shared : (reached : Extent) → RunValue → Seam
+shared reached r =
+    if int_lt reached.stop r.latest.stop then Overlap r.start reached.stop else Twice r.start r.latest.stop
+
+-- between the record that ends last and a run that comes next
+abbrev pub seam_before : (reached : Extent) → RunValue → Seam
+seam_before reached r =
+    if is_gap reached r.start then Gap reached.stop r.start
+    else if is_overlap reached r.start then shared reached r
     else Even
 
--- between a record and the last one of its stream; nothing if it begins a stream
-abbrev pub seam_in : List StreamValue → Facts → Seam
-seam_in [] x = Even
-seam_in (s ∷ streams) x = if is_of x s then seam_of s x.start else seam_in streams x
+-- the record that ends last, with a run more
+abbrev pub reached_with : (reached : Extent) → RunValue → Extent
+reached_with reached r = if int_lt reached.stop r.latest.stop then r.latest else reached
+
+-- before each of some runs
+abbrev pub seams_from : (reached : Extent) → List RunValue → List Seam
+seams_from reached [] = []
+seams_from reached (r ∷ runs) = seam_before reached r ∷ seams_from (reached_with reached r) runs
+
+-- between runs
+abbrev pub seams_of : List RunValue → List Seam
+seams_of [] = []
+seams_of (r ∷ runs) = seams_from r.latest runs
+
+-- ---- how many there are
+
+abbrev pub is_hole : Seam → Bool
+is_hole Even = false
+is_hole (Gap from to) = true
+is_hole (Overlap from to) = false
+is_hole (Twice from to) = false
+
+abbrev pub is_double : Seam → Bool
+is_double Even = false
+is_double (Gap from to) = false
+is_double (Overlap from to) = true
+is_double (Twice from to) = true
+
+-- so many gaps, and so many overlaps; what is there twice counts as one
+pub record SeamCountValue : Type 0 where
+  pub gaps : ℕ
+  pub overlaps : ℕ
+
+abbrev pub with_seam : SeamCountValue → Seam → SeamCountValue
+with_seam c seam =
+    record { gaps = more_if (is_hole seam) c.gaps; overlaps = more_if (is_double seam) c.overlaps }
+
+-- with those of seams
+abbrev pub with_seams : SeamCountValue → List Seam → SeamCountValue
+with_seams c [] = c
+with_seams c (seam ∷ seams) = with_seams (with_seam c seam) seams
+
+-- those of runs
+abbrev pub seam_count : List RunValue → SeamCountValue
+seam_count runs = with_seams (record { gaps = 0; overlaps = 0 }) (seams_of runs)

@@ -6,9 +6,10 @@ ghost use Rattle.std.specs.Io.KnownBytes.{Appends, Consumes, IsAtEnd};
 ghost use Rattle.sl_io.specs.Counts.{IsMore, StopsReading, StopsWriting};
 ghost use Rattle.sl_io.specs.Known.{AppendsBeginning, ConsumesSome};
 ghost use Rattle.record_check.specs.Findings.{FindsFirst, finding_after, finding_of};
-ghost use Rattle.record_check.specs.Listing.{file_text, listed_after, listing_of, partial_line, rules, verdict_by};
-ghost use Rattle.record_check.specs.Listing.{verdict_of};
+ghost use Rattle.record_check.specs.Listing.{file_text, listed_after, partial_line, rules, verdict_by, WritesListing};
+ghost use Rattle.record_check.specs.Listing.{verdict_of, BeginsListing};
 ghost use Rattle.record_check.specs.Checks.{begun_file, listed_of, piece_read, with_records, StopsChecking};
+ghost use Rattle.record_check.specs.Listing.{streams_text};
 
 use crate::finding::Finding;
 use crate::listing::Listing;
@@ -85,6 +86,7 @@ fn list_block<S: Stations, R: Source>(
 fn write_lines<W: Sink>(writer: &mut W, listing: &mut Listing) -> Result<(), WriteFault>
     ensures ok { OnOk result (Appends (W.written writer.old) (W.written writer.new) listing.old.lines) }
     ensures cleared { OnOk result (listing.new ≡ record listing.old { lines = [] }) }
+    ensures kept { OnErr result (listing.new ≡ listing.old) }
     ensures err { OnErr result (AppendsBeginning (W.written writer.old) (W.written writer.new) listing.old.lines) }
     ensures same { OnOk result ((W.failures writer.new ≡ W.failures writer.old)
         × (W.empty_writes writer.new ≡ W.empty_writes writer.old)) }
@@ -142,6 +144,29 @@ fn finish<W: Sink>(
     listing.list_rest(options, rest)?;
     write_lines(writer, listing)?;
     Ok(listing.verdict(rest))
+}
+
+/// Lists the gaps, overlaps and streams, whose runs are in order, as far as they are asked for. No line waits.
+fn list_in_order<W: Sink>(
+    options: ListingOptions,
+    writer: &mut W,
+    listing: &mut Listing,
+) -> Result<(), StreamFault>
+    requires { listing.old.lines ≡ [] }
+    ensures listed { listed_of listing.new ≡ listed_of listing.old }
+    ensures written { OnOk result (Appends (W.written writer.old) (W.written writer.new)
+        (streams_text options listing.old.streams)) }
+    ensures begun { OnErr result (AppendsBeginning (W.written writer.old) (W.written writer.new)
+        (streams_text options listing.old.streams)) }
+    ensures same { OnOk result ((W.failures writer.new ≡ W.failures writer.old)
+        × (W.empty_writes writer.new ≡ W.empty_writes writer.old)) }
+    ensures stopped { IfErr result (λ fault. (failures failures' calls calls' : ℕ) → failures' ≡ failures
+        → StopsChecking fault failures failures' calls calls' (W.failures writer.old) (W.failures writer.new)
+        (W.empty_writes writer.old) (W.empty_writes writer.new)) }
+{
+    listing.list_streams(options)?;
+    write_lines(writer, listing)?;
+    Ok(())
 }
 
 /// Checks what is left of the reader, a block at a time.
@@ -210,6 +235,7 @@ impl RecordCheck {
     ghost use Rattle.record_check.specs.Findings.{FindsFirst};
     ghost use Rattle.record_check.specs.Listing.{file_text, listed_after, nothing_listed, rules, streams_text};
     ghost use Rattle.record_check.specs.Listing.{verdict_of};
+    ghost use Rattle.record_check.specs.Streams.{AreInOrder};
 
     /// Nothing is listed. It fails only if memory can't be allocated.
     pub fn new(alloc: Global) -> Result<RecordCheck, AllocError>
@@ -231,13 +257,11 @@ impl RecordCheck {
     /// A line is `K NET STA LOC CHA TYPE START END SAMPLES`, with the record's number in the list from 1 on, each space
     /// of the location or channel as `-`, and each other byte of a code that is not 33 to 126 as `?`; or `K refused N
     /// Name`, with ` NET STA` after it if the station is not one of those that are expected. After the records comes
-    /// `partial R bytes`. If gaps are asked for, `gap NET STA LOC CHA TYPE FROM TO LENGTH` comes before a record that
-    /// starts more than half a sample after the end of the one before it in the stream, in whatever file that stood,
-    /// and `overlap ..` before one that starts more than half a sample before that end; both of records of data alone,
-    /// since others have no rate or no samples.
+    /// `partial R bytes`.
     ///
-    /// The reader is read in blocks of 64 KiB, and never kept as a whole: what is kept grows by streams alone. After a
-    /// fault a beginning of the file's lines is written.
+    /// The reader is read in blocks of 64 KiB, and never kept as a whole: what is kept grows by streams, if they or
+    /// their gaps are asked for, and by runs of their records. After a fault a beginning of the file's lines is
+    /// written.
     pub fn list_file<S: Stations, R: Source, W: Sink>(
         &mut self,
         options: ListingOptions,
@@ -279,17 +303,29 @@ impl RecordCheck {
         )
     }
 
-    /// With a summary, lists each stream of all files in a line, in the order of their first records: `NET STA LOC CHA
-    /// TYPE RECORDS FIRST LAST GAPS OVERLAPS`, with the earliest start and the latest end of its records.
+    /// Lists the gaps and overlaps of all files, and then the streams, as far as they are asked for.
+    ///
+    /// Gaps and overlaps are those of the records of a stream in the order of their times, in whatever files and order
+    /// they stood, stream by stream in the order of their first records. Records that stood one after the other, each
+    /// where the one before it ends within half a sample, are a run; runs are looked at in the order of their starts.
+    /// A run that starts more than half a sample after all records before it end makes a line `gap NET STA LOC CHA TYPE
+    /// FROM TO LENGTH`; one that starts more than half a sample before one of them ends makes `overlap ..` with the
+    /// time that is there twice, or `twice ..` if that is all of the run. Between records that are none of data there
+    /// are none of these, since they have no rate or no samples.
+    ///
+    /// Of a stream the line is `NET STA LOC CHA TYPE RECORDS FIRST LAST GAPS OVERLAPS`, with the earliest start and the
+    /// latest end of its records, and how many lines of gaps, and of overlaps and what is there twice, it has.
     pub fn list_streams<W: Sink>(
         &mut self,
         options: ListingOptions,
         writer: &mut W,
     ) -> Result<(), StreamFault>
+        ensures order { AreInOrder self.old.streams self.new.streams }
+        ensures count { self.new.count ≡ self.old.count }
         ensures written { OnOk result (Appends (W.written writer.old) (W.written writer.new)
-            (streams_text options self.old.streams)) }
+            (streams_text options self.new.streams)) }
         ensures begun { OnErr result (AppendsBeginning (W.written writer.old) (W.written writer.new)
-            (streams_text options self.old.streams)) }
+            (streams_text options self.new.streams)) }
         ensures same { OnOk result ((W.failures writer.new ≡ W.failures writer.old)
             × (W.empty_writes writer.new ≡ W.empty_writes writer.old)) }
         ensures stopped { IfErr result (λ fault. (failures failures' calls calls' : ℕ) → failures' ≡ failures
@@ -297,9 +333,8 @@ impl RecordCheck {
             (W.empty_writes writer.old) (W.empty_writes writer.new)) }
     {
         self.listing.begin_file();
-        self.listing.list_streams(options)?;
-        write_lines(writer, &mut self.listing)?;
-        Ok(())
+        self.listing.put_in_order();
+        list_in_order(options, writer, &mut self.listing)
     }
 }
 
@@ -316,12 +351,12 @@ pub fn check_records<S: Stations, R: Source, W: Sink>(
     ensures first { IfOk result (λ answer. IfSome (R.left reader.old) (λ bytes.
         FindsFirst (rules options (S.has_station stations.now)) bytes answer)) }
     ensures written { OnOk result (IfSome (R.left reader.old)
-        (λ bytes. Appends (W.written writer.old) (W.written writer.new)
-        (listing_of (rules options (S.has_station stations.now)) bytes))) }
+        (λ bytes. WritesListing (rules options (S.has_station stations.now)) bytes
+        (W.written writer.old) (W.written writer.new))) }
     ensures end { OnOk result (IsAtEnd (R.left reader.new)) }
     ensures begun { OnErr result (IfSome (R.left reader.old)
-        (λ bytes. AppendsBeginning (W.written writer.old) (W.written writer.new)
-        (listing_of (rules options (S.has_station stations.now)) bytes))) }
+        (λ bytes. BeginsListing (rules options (S.has_station stations.now)) bytes
+        (W.written writer.old) (W.written writer.new))) }
     ensures same { OnOk result ((R.failures reader.new ≡ R.failures reader.old)
         × (W.failures writer.new ≡ W.failures writer.old) × (W.empty_writes writer.new ≡ W.empty_writes writer.old)) }
     ensures stopped { IfErr result (λ fault. StopsChecking fault

@@ -10,7 +10,7 @@ use crate::finding::Finding;
 use crate::options::ListingOptions;
 use crate::stations::Stations;
 use crate::stream_list::StreamList;
-use crate::texts::{put_line, put_rest, put_seam, put_summaries};
+use crate::texts::{put_gaps, put_line, put_rest, put_summaries};
 use mseed_header::{Header, RecordFault, read};
 use std::alloc::{AllocError, Global};
 use std::marker::Model;
@@ -98,9 +98,9 @@ impl Model for Listing {
 
 impl Listing {
     ghost use Rattle.std.specs.Prelude.{◌≡◌, ◌<◌, ◌^◌, ◌++◌, [], length, nat_le, IfOk, OnOk};
-    ghost use Rattle.std.specs.Prelude.{Ok, option_map};
-    ghost use Rattle.record_check.specs.Streams.{streams_with};
-    ghost use Rattle.record_check.specs.Listing.{nothing_listed, partial_line, rules, seam_line, streams_after};
+    ghost use Rattle.std.specs.Prelude.{option_map};
+    ghost use Rattle.record_check.specs.Streams.{AreInOrder};
+    ghost use Rattle.record_check.specs.Listing.{nothing_listed, partial_line, rules, streams_after};
     ghost use Rattle.record_check.specs.Listing.{streams_text, verdict_by};
     ghost use Rattle.record_check.specs.Checks.{begun_file, listed_of, with_record, with_said};
     ghost use Rattle.record_check.specs.Findings.{finding_after};
@@ -127,29 +127,13 @@ impl Listing {
         self.lines.clear();
     }
 
-    /// The record belongs to a stream. What lies between it and the one before it is listed, if that is asked for.
-    fn put_header(&mut self, options: ListingOptions, header: &Header<'_>) -> Result<(), AllocError>
-        ensures { OnOk result (self.new ≡ record self.old {
-          streams = streams_with self.old.streams header.now;
-          lines = self.old.lines ++ seam_line options self.old.streams (Ok header.now);
-        }) }
-    {
-        let seam = self.streams.put(header)?;
-        if options.has_gaps {
-            put_seam(&mut self.lines, options.times, header, seam)?;
-        }
-        Ok(())
-    }
-
-    /// The same, if the record is read and streams are noted.
+    /// The record belongs to a stream, if it is read and streams are noted.
     fn put_in_stream(&mut self, options: ListingOptions, said: &Said<'_>) -> Result<(), AllocError>
-        ensures { OnOk result (self.new ≡ record self.old {
-          streams = streams_after options self.old.streams said.now;
-          lines = self.old.lines ++ seam_line options self.old.streams said.now;
-        }) }
+        ensures { OnOk result
+            (self.new ≡ record self.old { streams = streams_after options self.old.streams said.now }) }
     {
         match said {
-            Ok(header) if options.has_streams() => self.put_header(options, header),
+            Ok(header) if options.has_streams() => self.streams.put(header),
             _ => Ok(()),
         }
     }
@@ -195,11 +179,21 @@ impl Listing {
         put_rest(&mut self.lines, options, count)
     }
 
-    /// Lists the streams, if they are asked for.
-    pub(crate) fn list_streams(&mut self, options: ListingOptions) -> Result<(), AllocError>
-        ensures { OnOk result (self.new
-            ≡ record self.old { lines = self.old.lines ++ streams_text options self.old.streams }) }
+    /// Puts the runs of each stream in the order of their starts.
+    pub(crate) fn put_in_order(&mut self)
+        ensures order { AreInOrder self.old.streams self.new.streams }
+        ensures others { self.new ≡ record self.old { streams = self.new.streams } }
     {
+        self.streams.put_in_order();
+    }
+
+    /// Lists the gaps and overlaps of the streams, and the streams, as far as they are asked for.
+    pub(crate) fn list_streams(&mut self, options: ListingOptions) -> Result<(), AllocError>
+        ensures ok { OnOk result (self.new
+            ≡ record self.old { lines = self.old.lines ++ streams_text options self.old.streams }) }
+        ensures listed { listed_of self.new ≡ listed_of self.old }
+    {
+        put_gaps(&mut self.lines, options, self.streams.as_slice())?;
         put_summaries(&mut self.lines, options, self.streams.as_slice())
     }
 

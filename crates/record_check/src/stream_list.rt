@@ -3,14 +3,14 @@
 //! The streams of a check are a list with an index of their codes. A file may have as many streams as records, and a
 //! list that is walked over for each record would take the square of that. The index is a `HashMap`, as that of the
 //! stations of a configuration: the codes are spelled as numbers, so a record takes one look-up, whatever the number of
-//! streams. The list keeps the order of the first records. What is kept grows by streams alone, and a check without
-//! `--summary` keeps none.
+//! streams. The list keeps the order of the first records. What is kept grows by streams and by their gaps,
+//! and a check without `--summary` and `--gaps` keeps none.
 ghost use Rattle.std.specs.Prelude.{◌≡◌, ◌++◌, ◌∷◌, [], None, OnOk, OnErr};
 ghost use Rattle.record_check.specs.Index.{name_of, place_in, AreCodes, Finds};
 ghost use Rattle.record_check.specs.Streams.{begun};
 
 use crate::stream_name::StreamName;
-use crate::streams::{CheckedStream, Seam};
+use crate::streams::{CheckedStream, put_all_in_order};
 use mseed_header::Header;
 use std::alloc::{AllocError, Global};
 use std::collections::HashMap;
@@ -61,8 +61,8 @@ fn begin(
 }
 
 impl StreamList {
-    ghost use Rattle.std.specs.Prelude.{◌≡◌, [], IfOk, OnOk};
-    ghost use Rattle.record_check.specs.Streams.{seam_in, streams_with};
+    ghost use Rattle.std.specs.Prelude.{◌≡◌, [], OnOk};
+    ghost use Rattle.record_check.specs.Streams.{streams_with, AreInOrder};
 
     /// There is none.
     pub(crate) fn new(alloc: Global) -> StreamList
@@ -83,29 +83,30 @@ impl StreamList {
     }
 
     /// One record more: it belongs to one of the streams, or begins one. It is found by its name, and no other stream
-    /// is looked at. It answers what lies between the record and the one before it.
-    pub(crate) fn put(&mut self, header: &Header<'_>) -> Result<Seam, AllocError>
-        ensures put { OnOk result (self.new ≡ streams_with self.old header.now) }
-        ensures seam { IfOk result (λ seam. seam ≡ seam_in self.old header.now) }
+    /// is looked at.
+    pub(crate) fn put(&mut self, header: &Header<'_>) -> Result<(), AllocError>
+        ensures { OnOk result (self.new ≡ streams_with self.old header.now) }
     {
         let name = StreamName::of(header);
         match self.places.get(&name) {
             Some(place) => {
                 let stream = &mut self.streams[*place];
-                let seam = stream.seam_at(header.start());
-                stream.go_on(header);
-                Ok(seam)
+                stream.go_on(header)
             }
-            None => {
-                begin(
-                    self.alloc,
-                    &mut self.streams,
-                    &mut self.places,
-                    name,
-                    header,
-                )?;
-                Ok(Seam::Even)
-            }
+            None => begin(
+                self.alloc,
+                &mut self.streams,
+                &mut self.places,
+                name,
+                header,
+            ),
         }
+    }
+
+    /// Puts the runs of each stream in the order of their starts.
+    pub(crate) fn put_in_order(&mut self)
+        ensures { AreInOrder self.old self.new }
+    {
+        put_all_in_order(&mut self.streams);
     }
 }

@@ -8,7 +8,7 @@ use mseed_header::Header;
 
 /// The codes of a stream, each spelled as a number, and the letter of its type.
 #[derive(Clone, Copy, PartialEq, Eq, Hash)]
-pub(crate) struct StreamName {
+pub struct StreamName {
     network: u64,
     station: u64,
     location: u64,
@@ -18,7 +18,7 @@ pub(crate) struct StreamName {
 
 impl StreamName {
     /// That of the stream to which a record belongs.
-    pub(crate) fn of(header: &Header<'_>) -> StreamName
+    pub fn of(header: &Header<'_>) -> StreamName
         ensures name { result ≡ name_of header.now }
         ensures codes { AreCodes header.now }
     {

@@ -1,93 +1,13 @@
-//! The streams of a file of records.
-ghost use Rattle.std.specs.Prelude.{◌≡◌, ◌+◌, ◌<◌, ◌^◌, min, IfOk};
-ghost use Rattle.record_check.specs.Streams.{earlier as spec_earlier, later as spec_later};
-ghost use Rattle.record_check.specs.Streams.{more_if as spec_more_if, ticks_after as spec_ticks_after};
+//! The streams of files of records.
+ghost use Rattle.std.specs.Prelude.{◌≡◌, ◌+◌, ◌<◌, IfOk};
+ghost use Rattle.record_check.specs.Streams.{earlier as spec_earlier, later as spec_later, AreInOrder};
 
+use crate::runs::{Run, put_record};
 use crate::texts::kind_letter;
 use mseed_header::{Header, Kind};
 use sl_time::Tick;
 use std::alloc::{AllocError, Global};
 use std::marker::Model;
-
-/// The time that a record takes, and how many samples it has.
-#[derive(Clone, Copy)]
-struct Extent {
-    start: Tick,
-    end: Tick,
-    samples: u16,
-}
-
-impl Model for Extent {
-    ghost use Rattle.record_check.specs.Streams.{Extent as ExtentValue};
-
-    ghost Value = { ExtentValue };
-
-    ghost view = { λ e. record { start = e.start; stop = e.end; samples = e.samples } };
-
-    ghost inverse = { λ e. record { start = e.start; end = e.stop; samples = e.samples } };
-}
-
-/// By how many ticks a moment is after another one; 0 if it is not.
-pub(crate) fn ticks_after(earlier: Tick, later: Tick) -> u128
-    ensures value { result ≡ spec_ticks_after earlier later }
-    ensures bound { result < 2 ^ 64 }
-{
-    let (earlier, later) = (earlier.value(), later.value());
-    if earlier < later {
-        u128::from(later.abs_diff(earlier))
-    } else {
-        0
-    }
-}
-
-impl Extent {
-    ghost use Rattle.std.specs.Prelude.{◌≡◌};
-    ghost use Rattle.record_check.specs.Streams.{extent_of, is_gap, is_overlap, is_longer};
-
-    /// That of a record.
-    fn of(header: &Header<'_>) -> Extent
-        ensures { result ≡ extent_of header.now }
-    {
-        Extent {
-            start: header.start(),
-            end: header.end(),
-            samples: header.samples(),
-        }
-    }
-
-    /// Whether so many ticks are more than half a sample of it.
-    fn is_longer(self, ticks: u128) -> bool
-        requires { ticks < 2 ^ 64 }
-        ensures { result ≡ is_longer self ticks }
-    {
-        2 * u128::from(self.samples) * ticks > ticks_after(self.start, self.end)
-    }
-
-    /// Whether a record that starts then leaves a gap after it.
-    fn is_gap(self, start: Tick) -> bool
-        ensures { result ≡ is_gap self start }
-    {
-        self.is_longer(ticks_after(self.end, start))
-    }
-
-    /// Whether it overlaps a record that starts then.
-    fn is_overlap(self, start: Tick) -> bool
-        ensures { result ≡ is_overlap self start }
-    {
-        self.is_longer(ticks_after(start, self.end))
-    }
-}
-
-/// What lies between a record of a stream and the next one.
-#[derive(Clone, Copy)]
-pub enum Seam {
-    /// Nothing: the next one starts where the one before it ends, within half a sample, or they are not of data.
-    Even,
-    /// A time of which there is no record.
-    Gap { from: Tick, to: Tick },
-    /// A time of which there are two.
-    Overlap { from: Tick, to: Tick },
-}
 
 /// The earlier of two moments.
 fn earlier(a: Tick, b: Tick) -> Tick
@@ -103,18 +23,7 @@ fn later(a: Tick, b: Tick) -> Tick
     if a.value() < b.value() { b } else { a }
 }
 
-/// A count, with one more if that is so.
-fn more_if(is_so: bool, count: u64) -> u64
-    ensures { result ≡ spec_more_if is_so count }
-{
-    if is_so {
-        count.saturating_add(1)
-    } else {
-        count
-    }
-}
-
-/// What is known of a stream: the records of one type of a channel.
+/// What is known of a stream: the records of one type of a channel, in runs as they came.
 #[derive(Drop)]
 pub(crate) struct CheckedStream {
     network: Vec<u8>,
@@ -125,10 +34,7 @@ pub(crate) struct CheckedStream {
     records: u64,
     first: Tick,
     last: Tick,
-    gaps: u64,
-    overlaps: u64,
-    /// The last of its records that came.
-    latest: Extent,
+    runs: Vec<Run>,
 }
 
 impl Model for CheckedStream {
@@ -145,15 +51,13 @@ impl Model for CheckedStream {
       records = s.records;
       first = s.first;
       last = s.last;
-      gaps = s.gaps;
-      overlaps = s.overlaps;
-      latest = s.latest;
+      runs = s.runs.items;
     } };
 }
 
 impl CheckedStream {
-    ghost use Rattle.std.specs.Prelude.{◌≡◌, IfOk};
-    ghost use Rattle.record_check.specs.Streams.{begun, gone_on, has_gap_at, has_overlap_at, is_data, seam_of};
+    ghost use Rattle.std.specs.Prelude.{◌≡◌, IfOk, OnOk, OnErr};
+    ghost use Rattle.record_check.specs.Streams.{begun, gone_on, is_data, IsInOrder};
 
     /// That of a record which is its first.
     pub(crate) fn new(alloc: Global, header: &Header<'_>) -> Result<CheckedStream, AllocError>
@@ -168,9 +72,7 @@ impl CheckedStream {
             records: 1,
             first: header.start(),
             last: header.end(),
-            gaps: 0,
-            overlaps: 0,
-            latest: Extent::of(header),
+            runs: vec![in alloc; Run::of(header); 1]?,
         })
     }
 
@@ -181,54 +83,25 @@ impl CheckedStream {
         kind_letter(self.kind) == b'D'
     }
 
-    /// Whether a record that starts then leaves a gap.
-    fn has_gap_at(&self, start: Tick) -> bool
-        ensures { result ≡ has_gap_at self.now start }
-    {
-        self.is_data() && self.latest.is_gap(start)
-    }
-
-    /// Whether a record that starts then overlaps the last one.
-    fn has_overlap_at(&self, start: Tick) -> bool
-        ensures { result ≡ has_overlap_at self.now start }
-    {
-        self.is_data() && self.latest.is_overlap(start)
-    }
-
-    /// What lies between the last record and one that starts then.
-    #[tactic(auto, unfolding(crate::specs::Streams::seam_of))]
-    pub(crate) fn seam_at(&self, start: Tick) -> Seam
-        ensures { result ≡ seam_of self.now start }
-    {
-        if self.has_gap_at(start) {
-            Seam::Gap {
-                from: self.latest.end,
-                to: start,
-            }
-        } else if self.has_overlap_at(start) {
-            Seam::Overlap {
-                from: start,
-                to: self.latest.end,
-            }
-        } else {
-            Seam::Even
-        }
-    }
-
-    /// One record more.
+    /// One record more. It fails only if memory can't be allocated, and then nothing changes.
     #[tactic(auto, unfolding(crate::specs::Streams::gone_on))]
-    pub(crate) fn go_on(&mut self, header: &Header<'_>)
-        ensures { self.new ≡ gone_on header.now self.old }
+    pub(crate) fn go_on(&mut self, header: &Header<'_>) -> Result<(), AllocError>
+        ensures gone { OnOk result (self.new ≡ gone_on header.now self.old) }
+        ensures kept { OnErr result (self.new ≡ self.old) }
     {
-        let start = header.start();
-        let has_gap = self.has_gap_at(start);
-        let has_overlap = self.has_overlap_at(start);
-        self.records = more_if(true, self.records);
-        self.first = earlier(self.first, start);
+        let is_data = self.is_data();
+        put_record(&mut self.runs, is_data, header)?;
+        self.records = self.records.saturating_add(1);
+        self.first = earlier(self.first, header.start());
         self.last = later(self.last, header.end());
-        self.gaps = more_if(has_gap, self.gaps);
-        self.overlaps = more_if(has_overlap, self.overlaps);
-        self.latest = Extent::of(header);
+        Ok(())
+    }
+
+    /// Puts its runs in the order of their starts.
+    pub(crate) fn put_in_order(&mut self)
+        ensures { IsInOrder self.old self.new }
+    {
+        self.runs.sort_unstable_by_key(|run| run.start());
     }
 
     /// The network's code.
@@ -287,17 +160,20 @@ impl CheckedStream {
         self.last
     }
 
-    /// How many gaps there are between a record and the next one.
-    pub(crate) fn gaps(&self) -> u64
-        ensures { result ≡ self.now.gaps }
+    /// Its runs.
+    pub(crate) fn runs(&self) -> &[Run]
+        ensures { result.now ≡ self.now.runs }
     {
-        self.gaps
+        self.runs.as_slice()
     }
+}
 
-    /// How many overlaps there are.
-    pub(crate) fn overlaps(&self) -> u64
-        ensures { result ≡ self.now.overlaps }
-    {
-        self.overlaps
+/// Puts the runs of each stream in the order of their starts.
+pub(crate) fn put_all_in_order(streams: &mut Vec<CheckedStream>)
+    ensures { AreInOrder streams.old.items streams.new.items }
+{
+    for index in 0..streams.len() {
+        let stream = &mut streams[index];
+        stream.put_in_order();
     }
 }

@@ -2,16 +2,19 @@
 ghost use Rattle.std.specs.Prelude.{◌≡◌, ◌≤◌, ◌+◌, ◌∷◌, ◌++◌, [], OnOk, IfOk, length, map, decimal};
 ghost use Rattle.std.specs.Prelude.{vec_capacity, vec_len};
 ghost use Rattle.record_check.specs.Listing.{header_text, partial_line, partial_text};
-ghost use Rattle.record_check.specs.Listing.{record_line, record_text, refusal_text, refused_text, seam_text};
-ghost use Rattle.record_check.specs.Listing.{span_text, stranger_text};
-ghost use Rattle.record_check.specs.Listing.{stream_line, stream_lines, streams_text, summary_text};
+ghost use Rattle.record_check.specs.Listing.{all_gap_lines, count_text, gap_lines, gaps_text, record_line};
+ghost use Rattle.record_check.specs.Listing.{record_text, refusal_text, refused_text, seam_lines, seam_text};
+ghost use Rattle.record_check.specs.Listing.{span_text, stranger_text, stream_line, stream_lines, summaries_text};
+ghost use Rattle.record_check.specs.Listing.{summary_text};
+ghost use Rattle.record_check.specs.Streams.{seams_from};
 ghost use Rattle.record_check.specs.Words.{duration_text, kind_letter, shown_byte, shown_place, stream_text};
 ghost use Rattle.record_check.specs.Words.{time_text, word_text};
 
 use crate::fault::FileFault;
 use crate::listing::{Refused, Said};
 use crate::options::{ListingOptions, Times};
-use crate::streams::{CheckedStream, Seam, ticks_after};
+use crate::runs::{Run, Seam, SeamCount, SeamWalk, ticks_after};
+use crate::streams::CheckedStream;
 use itoa::{Buffer, Integer};
 use mseed_header::{Header, Kind};
 use sl_time::{Tick, put_moment, put_seconds};
@@ -290,7 +293,17 @@ pub(crate) fn put_rest(
     Ok(())
 }
 
-/// A stream's type, how many records it has, its earliest start and latest end, and its gaps and overlaps.
+/// How many gaps there are, and how many overlaps.
+fn put_count(text: &mut Vec<u8>, count: SeamCount) -> Result<(), AllocError>
+    ensures { OnOk result (text.new.items ≡ text.old.items ++ count_text count) }
+{
+    put_number_word(text, count.gaps)?;
+    put_number(text, count.overlaps)?;
+    Ok(())
+}
+
+/// A stream's type, how many records it has, its earliest start and latest end, and how many gaps and overlaps its runs
+/// have, which are in order.
 fn put_summary(text: &mut Vec<u8>, times: Times, stream: &CheckedStream) -> Result<(), AllocError>
     ensures { OnOk result (text.new.items ≡ text.old.items ++ summary_text times stream.now) }
 {
@@ -298,9 +311,7 @@ fn put_summary(text: &mut Vec<u8>, times: Times, stream: &CheckedStream) -> Resu
     put_number_word(text, stream.records())?;
     put_time(text, times, stream.first())?;
     put_time(text, times, stream.last())?;
-    put_number_word(text, stream.gaps())?;
-    put_number(text, stream.overlaps())?;
-    Ok(())
+    put_count(text, SeamCount::of(stream.runs()))
 }
 
 /// The line of a stream.
@@ -339,7 +350,7 @@ pub(crate) fn put_summaries(
     options: ListingOptions,
     streams: &[CheckedStream],
 ) -> Result<(), AllocError>
-    ensures { OnOk result (text.new.items ≡ text.old.items ++ streams_text options streams.now) }
+    ensures { OnOk result (text.new.items ≡ text.old.items ++ summaries_text options streams.now) }
 {
     if options.has_summary {
         put_streams(text, options.times, streams)?;
@@ -347,24 +358,24 @@ pub(crate) fn put_summaries(
     Ok(())
 }
 
-/// The stream of a record, from when to when, and how long that is.
+/// A stream, from when to when, and how long that is.
 fn put_span(
     text: &mut Vec<u8>,
     times: Times,
-    header: &Header<'_>,
+    stream: &CheckedStream,
     from: Tick,
     to: Tick,
 ) -> Result<(), AllocError>
-    ensures { OnOk result (text.new.items ≡ text.old.items ++ span_text times header.now from to) }
+    ensures { OnOk result (text.new.items ≡ text.old.items ++ span_text times stream.now from to) }
 {
     put_codes(
         text,
-        header.network(),
-        header.station(),
-        header.location(),
-        header.channel(),
+        stream.network(),
+        stream.station(),
+        stream.location(),
+        stream.channel(),
     )?;
-    put_kind(text, header.kind())?;
+    put_kind(text, stream.kind())?;
     put_time(text, times, from)?;
     put_time(text, times, to)?;
     put_duration(text, times, ticks_after(from, to))?;
@@ -372,24 +383,82 @@ fn put_span(
     Ok(())
 }
 
-/// The line of what lies between a record and the one before it in its stream.
-pub(crate) fn put_seam(
+/// The line of what lies between runs of a stream.
+fn put_seam(
     text: &mut Vec<u8>,
     times: Times,
-    header: &Header<'_>,
+    stream: &CheckedStream,
     seam: Seam,
 ) -> Result<(), AllocError>
-    ensures { OnOk result (text.new.items ≡ text.old.items ++ seam_text times header.now seam) }
+    ensures { OnOk result (text.new.items ≡ text.old.items ++ seam_text times stream.now seam) }
 {
-    match seam {
-        Seam::Even => Ok(()),
-        Seam::Gap { from, to } => {
-            text.extend_from_slice(b"gap ")?;
-            put_span(text, times, header, from, to)
-        }
-        Seam::Overlap { from, to } => {
-            text.extend_from_slice(b"overlap ")?;
-            put_span(text, times, header, from, to)
-        }
+    let (word, from, to): (&[u8], Tick, Tick) = match seam {
+        Seam::Even => return Ok(()),
+        Seam::Gap { from, to } => (b"gap ", from, to),
+        Seam::Overlap { from, to } => (b"overlap ", from, to),
+        Seam::Twice { from, to } => (b"twice ", from, to),
+    };
+    text.extend_from_slice(word)?;
+    put_span(text, times, stream, from, to)
+}
+
+/// The lines of what lies before each of some runs.
+fn put_seams(
+    text: &mut Vec<u8>,
+    times: Times,
+    stream: &CheckedStream,
+    reached: SeamWalk,
+    runs: &[Run],
+) -> Result<(), AllocError>
+    ensures { OnOk result (text.new.items
+        ≡ text.old.items ++ seam_lines times stream.now (seams_from reached runs.now)) }
+{
+    let mut walk = reached;
+    for run in runs {
+        let seam = walk.step(run);
+        put_seam(text, times, stream, seam)?;
     }
+    Ok(())
+}
+
+/// The lines of the gaps and overlaps of a stream, whose runs are in order.
+fn put_stream_gaps(
+    text: &mut Vec<u8>,
+    times: Times,
+    stream: &CheckedStream,
+) -> Result<(), AllocError>
+    ensures { OnOk result (text.new.items ≡ text.old.items ++ gap_lines times stream.now) }
+{
+    match stream.runs().split_first() {
+        Some((first, runs)) => put_seams(text, times, stream, SeamWalk::behind(first), runs),
+        None => Ok(()),
+    }
+}
+
+/// Those of streams.
+fn put_all_gaps(
+    text: &mut Vec<u8>,
+    times: Times,
+    streams: &[CheckedStream],
+) -> Result<(), AllocError>
+    ensures { OnOk result (text.new.items ≡ text.old.items ++ all_gap_lines times streams.now) }
+{
+    for stream in streams {
+        put_stream_gaps(text, times, stream)?;
+    }
+    Ok(())
+}
+
+/// The same, if they are asked for.
+pub(crate) fn put_gaps(
+    text: &mut Vec<u8>,
+    options: ListingOptions,
+    streams: &[CheckedStream],
+) -> Result<(), AllocError>
+    ensures { OnOk result (text.new.items ≡ text.old.items ++ gaps_text options streams.now) }
+{
+    if options.has_gaps {
+        put_all_gaps(text, options.times, streams)?;
+    }
+    Ok(())
 }

@@ -35,7 +35,8 @@ records-preserved g c =
     let so_far = h.good in
     let size = length-drop c.feed.result.used c.records.left.now in
     record {
-      listed = listed_by_feeding _ _ _ _ _ c.feed.result.used whole _ _ c.feed.ensures.read after rest listed
+      listed = listed_by_feeding (rules c.args.options (g.S.Stations.has_station c.args.stations.now)) _ _ _ _
+          c.feed.result.used whole c.records.listing _ c.feed.ensures.read after rest listed
           ∙ h.listed;
       rest = rest_by_feeding _ _ _ _ c.feed.result.used whole c.feed.ensures.read after rest ∙ h.rest;
       good = rw (rest, size) (grind (arith, common_steps));
