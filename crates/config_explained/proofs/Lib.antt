@@ -2,7 +2,6 @@ mod DifferenceLemmas
 mod LineLemmas
 pub mod OwnerLemmas
 pub mod StationLemmas
-pub mod NearLemmas
 mod SeenLemmas
 mod HolderLemmas
 mod EntryLemmas

@@ -1,3 +1,4 @@
+pub mod ConfigTexts
 pub mod Places
 pub mod SettingValues
 pub mod KeyTable

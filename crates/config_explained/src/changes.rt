@@ -1,8 +1,7 @@
 //! What a new configuration changes, and for whom.
-ghost use Rattle.std.specs.Prelude.{◌≡◌, ◌++◌, ◌∷◌, [], IfOk, IfSome, OnOk, false, flat_map, map};
+ghost use Rattle.std.specs.Prelude.{◌≡◌, ◌++◌, ◌∷◌, [], IfOk, OnOk, false, flat_map, map};
+ghost use Rattle.config_explained.specs.ConfigTexts.{keys_of};
 ghost use Rattle.std.specs.Prelude.{None, Some, option_map, true};
-ghost use Rattle.std.specs.Str.{IsUtf8};
-ghost use Rattle.toml.specs.Parse.{parse_document};
 ghost use Rattle.toml.specs.View.{table_view};
 ghost use Rattle.protocol.specs.Catalog.{is_same_but_for_access};
 ghost use Rattle.config_explained.specs.Changes.{admission_by, admission_lines, admitted, admitted_by, change_line};
@@ -12,6 +11,7 @@ ghost use Rattle.config_explained.specs.Changes.{refusal_line};
 ghost use Rattle.config_explained.specs.Holders.{words_of};
 ghost use Rattle.config_explained.specs.NetworkTexts.{network_text};
 
+use crate::config_text::ConfigText;
 use crate::coverage::{Coverage, coverage_of};
 use crate::gains::gains;
 use crate::holders::list_at;
@@ -19,8 +19,7 @@ use crate::lines::put;
 use crate::network::Network;
 use crate::network_text::put_network;
 use crate::opened::networks_of;
-use catalog::keys::table_of;
-use catalog::{Config, ConfigFault, Station};
+use catalog::{Config, Station};
 use itoa::Buffer;
 use protocol::reason::Reason;
 use std::alloc::{AllocError, Global};
@@ -310,53 +309,9 @@ fn put_refusal(text: &mut Vec<u8>, is_same: bool) -> Result<(), AllocError>
     put_reason(text, Reason::Different)
 }
 
-/// The lines of two configurations with these tables.
-fn changes_between(
-    alloc: Global,
-    old: &Config,
-    new: &Config,
-    tables: &Tables<'_>,
-) -> Result<Vec<u8>, AllocError>
-    ensures { IfOk result (λ lines. lines.items
-        ≡ changes_text (table_view tables.now.old.now) (table_view tables.now.new.now) old.now new.now) }
-{
-    let mut lines = Vec::new(alloc);
-    put_olds(alloc, &mut lines, tables, old.stations(), new)?;
-    put_news(alloc, &mut lines, tables, new.stations(), old)?;
-    put_refusal(&mut lines, old.is_same_but_for_access(new))?;
-    if lines.is_empty() {
-        put(&mut lines, b"nothing changes\n")?;
-    }
-    Ok(lines)
-}
-
-/// The same, where the text of the new one is to be read.
-fn changes_to(
-    alloc: Global,
-    old: &Config,
-    old_table: &Table,
-    new: &Config,
-    new_text: &[u8],
-) -> Result<Vec<u8>, AllocError>
-    ensures { IfOk result (λ lines. IsUtf8 new_text.now → IfSome (parse_document new_text.now)
-        (λ keys. lines.items ≡ changes_text (table_view old_table.now) keys old.now new.now)) }
-{
-    match table_of(alloc, new_text) {
-        Ok(new_table) => {
-            let tables = Tables {
-                old: old_table,
-                new: &new_table,
-            };
-            changes_between(alloc, old, new, &tables)
-        }
-        Err(ConfigFault::OutOfMemory) => Err(AllocError),
-        Err(_) => Ok(Vec::new(alloc)),
-    }
-}
-
-/// What changes, and for whom, if a server that runs one configuration is given another. Each is that of its text. First
-/// come the stations of the old one, in order, and then those that are new. A station is known by its network and code,
-/// and nobody may use one that is not there. A line each:
+/// What changes, and for whom, if a server that runs one configuration is given another. First come the stations of the
+/// old one, in order, and then those that are new. A station is known by its network and code, and nobody may use one
+/// that is not there. A line each:
 ///
 /// - `NET_STA is gone`, `NET_STA is new`;
 /// - `NET_STA opens to everybody`, `NET_STA closes to everybody`, or `NET_STA closes to everybody but NETWORK NETWORK`;
@@ -367,20 +322,21 @@ fn changes_to(
 ///
 /// Only memory can lack. It takes few steps for networks whose masks have their ones on the left; for others up to one
 /// for each pattern of the bits that some mask has.
-pub fn changes_of(
-    alloc: Global,
-    old: &Config,
-    old_text: &[u8],
-    new: &Config,
-    new_text: &[u8],
-) -> Result<Vec<u8>, AllocError>
-    ensures { IfOk result (λ lines. IsUtf8 old_text.now → IsUtf8 new_text.now
-        → IfSome (parse_document old_text.now) (λ keys. IfSome (parse_document new_text.now)
-        (λ keys'. lines.items ≡ changes_text keys keys' old.now new.now))) }
+pub fn changes_of(alloc: Global, old: &ConfigText, new: &ConfigText) -> Result<Vec<u8>, AllocError>
+    ensures { IfOk result (λ lines.
+        lines.items ≡ changes_text (keys_of old.now.text) (keys_of new.now.text) old.now.config new.now.config) }
 {
-    match table_of(alloc, old_text) {
-        Ok(old_table) => changes_to(alloc, old, &old_table, new, new_text),
-        Err(ConfigFault::OutOfMemory) => Err(AllocError),
-        Err(_) => Ok(Vec::new(alloc)),
+    let tables = Tables {
+        old: old.table(),
+        new: new.table(),
+    };
+    let (old, new) = (old.config(), new.config());
+    let mut lines = Vec::new(alloc);
+    put_olds(alloc, &mut lines, &tables, old.stations(), new)?;
+    put_news(alloc, &mut lines, &tables, new.stations(), old)?;
+    put_refusal(&mut lines, old.is_same_but_for_access(new))?;
+    if lines.is_empty() {
+        put(&mut lines, b"nothing changes\n")?;
     }
+    Ok(lines)
 }

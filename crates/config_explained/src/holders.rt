@@ -1,17 +1,16 @@
 //! Who may use each station.
-ghost use Rattle.std.specs.Prelude.{◌≡◌, ◌++◌, IfOk, IfSome, OnOk, map, option_map, slice_get};
-ghost use Rattle.std.specs.Str.{IsUtf8};
-ghost use Rattle.toml.specs.Parse.{parse_document};
+ghost use Rattle.std.specs.Prelude.{◌≡◌, ◌++◌, IfOk, OnOk, map, option_map, slice_get};
+ghost use Rattle.config_explained.specs.ConfigTexts.{keys_of};
 ghost use Rattle.toml.specs.View.{table_view};
 ghost use Rattle.protocol.specs.Catalog.{stations_of};
 ghost use Rattle.config_explained.specs.Holders.{holder_at, holder_line, holder_text, holders_from, holders_text};
 ghost use Rattle.config_explained.specs.Holders.{list_at};
 
+use crate::config_text::ConfigText;
 use crate::entries::put_list;
 use crate::finding::text_at;
 use crate::lines::put;
-use catalog::keys::table_of;
-use catalog::{Config, ConfigFault, Station, StationStep, Step};
+use catalog::{Station, StationStep, Step};
 use std::alloc::{AllocError, Global};
 use toml::Table;
 
@@ -52,16 +51,11 @@ fn put_all(text: &mut Vec<u8>, stations: &[Station], table: &Table) -> Result<()
 /// All stations of a configuration, in order, a line each: its network, its code, and the entries of the access list
 /// that holds for it, as they stand in the configuration's text: its own list, else the server's. A list without an
 /// entry admits `nobody`; `-` stands where no list holds, so that everybody may use the station. Only memory can lack.
-pub fn holders_of(alloc: Global, config: &Config, text: &[u8]) -> Result<Vec<u8>, AllocError>
-    ensures { IfOk result (λ lines. IsUtf8 text.now → IfSome (parse_document text.now)
-        (λ keys. lines.items ≡ holders_text keys (stations_of config.now))) }
+pub fn holders_of(alloc: Global, read: &ConfigText) -> Result<Vec<u8>, AllocError>
+    ensures { IfOk result (λ lines. lines.items ≡ holders_text (keys_of read.now.text) (stations_of read.now.config)) }
 {
     let mut lines = Vec::new(alloc);
-    match table_of(alloc, text) {
-        Ok(table) => put_all(&mut lines, config.stations(), &table)?,
-        Err(ConfigFault::OutOfMemory) => return Err(AllocError),
-        Err(_) => {}
-    }
+    put_all(&mut lines, read.config().stations(), read.table())?;
     Ok(lines)
 }
 
@@ -81,26 +75,22 @@ fn put_at(
     }
 }
 
-/// The line of the first station of a configuration with these codes, as `holders_of` has it, if there is one. The
-/// configuration is that of the text. Only memory can lack.
+/// The line of the first station of a configuration with these codes, as `holders_of` has it, if there is one. Only
+/// memory can lack.
 pub fn holder_of(
     alloc: Global,
-    config: &Config,
-    text: &[u8],
+    read: &ConfigText,
     network: &[u8],
     code: &[u8],
 ) -> Result<Option<Vec<u8>>, AllocError>
-    ensures { IfOk result (λ line. IsUtf8 text.now → IfSome (parse_document text.now)
-        (λ keys. option_map (λ l. l.items) line ≡ holder_text keys config.now network.now code.now)) }
+    ensures { IfOk result (λ line.
+        option_map (λ l. l.items) line ≡ holder_text (keys_of read.now.text) read.now.config network.now code.now) }
 {
+    let config = read.config();
     let Some(place) = config.place_of(network, code) else {
         return Ok(None);
     };
     let mut line = Vec::new(alloc);
-    match table_of(alloc, text) {
-        Ok(table) => put_at(&mut line, config.stations(), &table, place)?,
-        Err(ConfigFault::OutOfMemory) => return Err(AllocError),
-        Err(_) => {}
-    }
+    put_at(&mut line, config.stations(), read.table(), place)?;
     Ok(Some(line))
 }

@@ -4,6 +4,8 @@
 //! itself is that of `catalog`.
 #![tactic(auto)]
 
+// what is read
+mod config_text;
 // findings
 mod difference;
 mod finding;
@@ -36,6 +38,7 @@ mod seen;
 mod users;
 
 pub use changes::changes_of;
+pub use config_text::{ConfigText, RefusedText};
 pub use difference::{Difference, first_difference};
 pub use finding::{ConfigFinding, finding_of, text_at};
 pub use holders::{holder_of, holders_of};

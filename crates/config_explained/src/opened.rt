@@ -1,18 +1,17 @@
 //! Stations that everybody may use.
-ghost use Rattle.std.specs.Prelude.{◌≡◌, ◌++◌, ◌==◌, IfOk, IfSome, OnOk, map, option_map};
+ghost use Rattle.std.specs.Prelude.{◌≡◌, ◌++◌, ◌==◌, IfOk, OnOk, map, option_map};
+ghost use Rattle.config_explained.specs.ConfigTexts.{keys_of};
 ghost use Rattle.std.specs.List.{list_any};
-ghost use Rattle.std.specs.Str.{IsUtf8};
-ghost use Rattle.toml.specs.Parse.{parse_document};
 ghost use Rattle.toml.specs.View.{table_view};
 ghost use Rattle.protocol.specs.Catalog.{stations_of};
 ghost use Rattle.access_list.specs.Tokens.{is_separator};
 ghost use Rattle.config_explained.specs.Opened.{is_open, is_whole, networks_of, opened_count, opened_from};
 
+use crate::config_text::ConfigText;
 use crate::holders::list_at;
 use crate::network::Network;
 use access_list::list::is_separator;
-use catalog::keys::table_of;
-use catalog::{Config, ConfigFault, Station};
+use catalog::Station;
 use std::alloc::{AllocError, Global};
 use toml::Table;
 
@@ -69,15 +68,10 @@ fn count_open(alloc: Global, stations: &[Station], table: &Table) -> Result<usiz
     Ok(count)
 }
 
-/// How many stations of a configuration, which is that of a text, everybody may use: no list holds, neither the
+/// How many stations of a configuration everybody may use: no list holds, neither the
 /// station's own nor the server's, or the list that holds has an entry whose mask has no ones. Only memory can lack.
-pub fn open_to_everybody(alloc: Global, config: &Config, text: &[u8]) -> Result<usize, AllocError>
-    ensures { IfOk result (λ count. IsUtf8 text.now → IfSome (parse_document text.now)
-        (λ keys. count ≡ opened_count keys (stations_of config.now))) }
+pub fn open_to_everybody(alloc: Global, read: &ConfigText) -> Result<usize, AllocError>
+    ensures { IfOk result (λ count. count ≡ opened_count (keys_of read.now.text) (stations_of read.now.config)) }
 {
-    match table_of(alloc, text) {
-        Ok(table) => count_open(alloc, config.stations(), &table),
-        Err(ConfigFault::OutOfMemory) => Err(AllocError),
-        Err(_) => Ok(0),
-    }
+    count_open(alloc, read.config().stations(), read.table())
 }

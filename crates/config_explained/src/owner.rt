@@ -9,7 +9,7 @@ use crate::lines::put;
 use crate::nearest::nearest;
 use catalog::Station;
 use itoa::Buffer;
-use std::alloc::AllocError;
+use std::alloc::{AllocError, Global};
 
 /// Whose keys they are.
 #[derive(Clone, Copy)]
@@ -39,10 +39,10 @@ impl Owner<'_> {
     }
 
     /// Puts the key that it has and that is nearest to another one behind a text, as a question, if one is near.
-    pub fn put_nearest(self, text: &mut Vec<u8>, key: &str) -> Result<(), AllocError>
+    pub fn put_nearest(self, alloc: Global, text: &mut Vec<u8>, key: &str) -> Result<(), AllocError>
         ensures { OnOk result (text.new.items ≡ text.old.items ++ hint (whose self.entry) key.now) }
     {
-        let Some(near) = nearest(key, self.keys()) else {
+        let Some(near) = nearest(alloc, key, self.keys())? else {
             return Ok(());
         };
         put(text, b"; did you mean ")?;

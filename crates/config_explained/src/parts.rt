@@ -1,18 +1,17 @@
 //! How much of a network sees each station.
-ghost use Rattle.std.specs.Prelude.{◌≡◌, ◌++◌, IfOk, IfSome, OnOk, map, option_map};
-ghost use Rattle.std.specs.Str.{IsUtf8};
-ghost use Rattle.toml.specs.Parse.{parse_document};
+ghost use Rattle.std.specs.Prelude.{◌≡◌, ◌++◌, IfOk, OnOk, map, option_map};
+ghost use Rattle.config_explained.specs.ConfigTexts.{keys_of};
 ghost use Rattle.toml.specs.View.{table_view};
 ghost use Rattle.protocol.specs.Catalog.{stations_of};
 ghost use Rattle.config_explained.specs.Parts.{part_line, part_of, part_words, parts_from, parts_text};
 
+use crate::config_text::ConfigText;
 use crate::coverage::{Coverage, coverage_of};
 use crate::holders::list_at;
 use crate::lines::put;
 use crate::network::Network;
 use crate::opened::networks_of;
-use catalog::keys::table_of;
-use catalog::{Config, ConfigFault, Station};
+use catalog::Station;
 use std::alloc::{AllocError, Global};
 use toml::Table;
 
@@ -71,23 +70,19 @@ fn put_parts(
 }
 
 /// All stations of a configuration, in order, a line each: its network, its code, and `all` if every address of a
-/// network may use it, `none` if no address of it may, else `some`. The configuration is that of the text. Only memory
-/// can lack. It takes few steps for networks whose masks have their ones on the left; for others up to one for each
+/// network may use it, `none` if no address of it may, else `some`. Only memory can lack. It takes few steps for networks whose masks have their ones on the left; for others up to one for each
 /// pattern of the bits that some mask has and another has not.
-pub fn parts_of(
-    alloc: Global,
-    config: &Config,
-    text: &[u8],
-    network: Network,
-) -> Result<Vec<u8>, AllocError>
-    ensures { IfOk result (λ lines. IsUtf8 text.now → IfSome (parse_document text.now)
-        (λ keys. lines.items ≡ parts_text keys network (stations_of config.now))) }
+pub fn parts_of(alloc: Global, read: &ConfigText, network: Network) -> Result<Vec<u8>, AllocError>
+    ensures { IfOk result (λ lines.
+        lines.items ≡ parts_text (keys_of read.now.text) network (stations_of read.now.config)) }
 {
     let mut lines = Vec::new(alloc);
-    match table_of(alloc, text) {
-        Ok(table) => put_parts(alloc, &mut lines, config.stations(), &table, network)?,
-        Err(ConfigFault::OutOfMemory) => return Err(AllocError),
-        Err(_) => {}
-    }
+    put_parts(
+        alloc,
+        &mut lines,
+        read.config().stations(),
+        read.table(),
+        network,
+    )?;
     Ok(lines)
 }

@@ -1,7 +1,6 @@
 //! Entries of access lists that admit something else than their text looks like.
-ghost use Rattle.std.specs.Prelude.{◌≡◌, ◌≤◌, ◌++◌, ◌<◌, ◌^◌, IfOk, IfSome, OnOk, map, option_map};
-ghost use Rattle.std.specs.Str.{IsUtf8};
-ghost use Rattle.toml.specs.Parse.{parse_document};
+ghost use Rattle.std.specs.Prelude.{◌≡◌, ◌≤◌, ◌++◌, ◌<◌, ◌^◌, IfOk, OnOk, map, option_map};
+ghost use Rattle.config_explained.specs.ConfigTexts.{keys_of};
 ghost use Rattle.toml.specs.View.{table_view};
 ghost use Rattle.protocol.specs.Catalog.{stations_of};
 ghost use Rattle.access_list.specs.Tokens.{is_separator};
@@ -10,13 +9,13 @@ ghost use Rattle.config_explained.specs.Remarks.{remark_words, remarks_from, rem
 ghost use Rattle.config_explained.specs.Remarks.{station_remarks};
 ghost use Rattle.config_explained.specs.Unknown.{whose};
 
+use crate::config_text::ConfigText;
 use crate::finding::text_at;
 use crate::lines::put;
 use crate::network::{Network, ones};
 use crate::owner::Owner;
 use access_list::list::is_separator;
-use catalog::keys::table_of;
-use catalog::{Config, ConfigFault, Station, StationStep, Step};
+use catalog::{Station, StationStep, Step};
 use std::alloc::{AllocError, Global};
 use toml::Table;
 
@@ -160,27 +159,16 @@ fn put_stations(text: &mut Vec<u8>, stations: &[Station], table: &Table) -> Resu
     Ok(())
 }
 
-/// The lines of a configuration's lists.
-fn lines_of(alloc: Global, config: &Config, table: &Table) -> Result<Vec<u8>, AllocError>
-    ensures { IfOk result (λ lines. lines.items ≡ remarks_text (table_view table.now) (stations_of config.now)) }
-{
-    let mut lines = Vec::new(alloc);
-    put_if(&mut lines, text_at(table, Step::Access), Owner::Server)?;
-    put_stations(&mut lines, config.stations(), table)?;
-    Ok(lines)
-}
-
 /// The entries of a configuration's access lists that admit something else than their text looks like, a line each:
 /// first those of the server's list, then those of each station's own, with its number, from 1 on, and its codes. An
 /// entry is named if it admits everybody, if it is `0.0.0.0` alone, if the ones of its mask are not on the left, or if
-/// its address has bits outside its mask. The configuration is that of the text. Only memory can lack.
-pub fn remarks(alloc: Global, config: &Config, text: &[u8]) -> Result<Vec<u8>, AllocError>
-    ensures { IfOk result (λ lines. IsUtf8 text.now → IfSome (parse_document text.now)
-        (λ keys. lines.items ≡ remarks_text keys (stations_of config.now))) }
+/// its address has bits outside its mask. Only memory can lack.
+pub fn remarks(alloc: Global, read: &ConfigText) -> Result<Vec<u8>, AllocError>
+    ensures { IfOk result (λ lines. lines.items ≡ remarks_text (keys_of read.now.text) (stations_of read.now.config)) }
 {
-    match table_of(alloc, text) {
-        Ok(table) => lines_of(alloc, config, &table),
-        Err(ConfigFault::OutOfMemory) => Err(AllocError),
-        Err(_) => Ok(Vec::new(alloc)),
-    }
+    let table = read.table();
+    let mut lines = Vec::new(alloc);
+    put_if(&mut lines, text_at(table, Step::Access), Owner::Server)?;
+    put_stations(&mut lines, read.config().stations(), table)?;
+    Ok(lines)
 }

@@ -1,29 +1,33 @@
 //! The keys that are not known.
-ghost use Rattle.std.specs.Prelude.{◌≡◌, ◌<◌, ◌^◌, ◌++◌, IfOk, IfSome, OnOk, map, option_map};
-ghost use Rattle.std.specs.Str.{IsUtf8};
-ghost use Rattle.toml.specs.Parse.{parse_document};
+ghost use Rattle.std.specs.Prelude.{◌≡◌, ◌<◌, ◌^◌, ◌++◌, IfOk, OnOk, map, option_map};
+ghost use Rattle.config_explained.specs.ConfigTexts.{keys_of};
 ghost use Rattle.toml.specs.View.{table_view};
 ghost use Rattle.protocol.specs.Catalog.{stations_of};
 ghost use Rattle.config_explained.specs.Unknown.{owner_lines, station_lines, station_table, stations_from};
 ghost use Rattle.config_explained.specs.Unknown.{named, unknown_text, whose};
 
+use crate::config_text::ConfigText;
 use crate::first_lines::keep_first;
 use crate::key_lines::put_line;
 use crate::owner::Owner;
 use crate::values::value_of;
-use catalog::keys::table_of;
-use catalog::{Config, ConfigFault, Station};
+use catalog::Station;
 use std::alloc::{AllocError, Global};
 use toml::Table;
 
 /// The lines of the keys of a table that are not known.
-fn put_unknown(text: &mut Vec<u8>, table: &Table, owner: Owner<'_>) -> Result<(), AllocError>
+fn put_unknown(
+    alloc: Global,
+    text: &mut Vec<u8>,
+    table: &Table,
+    owner: Owner<'_>,
+) -> Result<(), AllocError>
     ensures { OnOk result (text.new.items ≡ text.old.items ++ owner_lines (whose owner.entry) (table_view table.now)) }
 {
     for (key, _value) in table.iter() {
         let name = key.as_str();
         if !owner.knows(name) {
-            put_line(text, name, owner)?;
+            put_line(alloc, text, name, owner)?;
         }
     }
     Ok(())
@@ -44,6 +48,7 @@ fn station_table<'a>(table: &'a Table, place: usize) -> Option<&'a Table>
 
 /// The lines of a station's keys that are not known.
 fn put_station(
+    alloc: Global,
     text: &mut Vec<u8>,
     table: &Table,
     place: usize,
@@ -54,46 +59,40 @@ fn put_station(
         ≡ text.old.items ++ station_lines (table_view table.now) place station.now.station) }
 {
     match station_table(table, place) {
-        Some(keys) => put_unknown(text, keys, Owner::Station(place + 1, station)),
+        Some(keys) => put_unknown(alloc, text, keys, Owner::Station(place + 1, station)),
         None => Ok(()),
     }
 }
 
 /// The lines of all stations' keys that are not known.
 #[tactic(auto, using(crate::proofs::StationLemmas::station_lemmas))]
-fn put_stations(text: &mut Vec<u8>, stations: &[Station], table: &Table) -> Result<(), AllocError>
+fn put_stations(
+    alloc: Global,
+    text: &mut Vec<u8>,
+    stations: &[Station],
+    table: &Table,
+) -> Result<(), AllocError>
     ensures { OnOk result (text.new.items ≡ text.old.items
         ++ stations_from (table_view table.now) 0 (map (λ e. e.station) stations.now)) }
 {
     for (place, station) in stations.iter().enumerate() {
-        put_station(text, table, place, station)?;
+        put_station(alloc, text, table, place, station)?;
     }
     Ok(())
-}
-
-/// The lines of a configuration's keys that are not known.
-fn lines_of(alloc: Global, config: &Config, table: &Table) -> Result<Vec<u8>, AllocError>
-    ensures { IfOk result (λ lines.
-        lines.items ≡ named (unknown_text (table_view table.now) (stations_of config.now))) }
-{
-    let mut lines = Vec::new(alloc);
-    put_unknown(&mut lines, table, Owner::Server)?;
-    put_stations(&mut lines, config.stations(), table)?;
-    keep_first(&mut lines)?;
-    Ok(lines)
 }
 
 /// The keys of a configuration's text that are not known, which reading it ignores, a line each: first those of the
 /// whole server, then those of each station with its number, from 1 on, and its codes; those of one table in the order
 /// of their bytes. Bytes of a key that are not visible ones of ASCII stand there as `?`. At most 64 keys are named; if
 /// there are more, one more line says how many. It fails only if memory can't be allocated.
-pub fn unknown_keys(alloc: Global, config: &Config, text: &[u8]) -> Result<Vec<u8>, AllocError>
-    ensures { IfOk result (λ lines. IsUtf8 text.now → IfSome (parse_document text.now)
-        (λ keys. lines.items ≡ named (unknown_text keys (stations_of config.now)))) }
+pub fn unknown_keys(alloc: Global, read: &ConfigText) -> Result<Vec<u8>, AllocError>
+    ensures { IfOk result (λ lines.
+        lines.items ≡ named (unknown_text (keys_of read.now.text) (stations_of read.now.config))) }
 {
-    match table_of(alloc, text) {
-        Ok(table) => lines_of(alloc, config, &table),
-        Err(ConfigFault::OutOfMemory) => Err(AllocError),
-        Err(_) => Ok(Vec::new(alloc)),
-    }
+    let table = read.table();
+    let mut lines = Vec::new(alloc);
+    put_unknown(alloc, &mut lines, table, Owner::Server)?;
+    put_stations(alloc, &mut lines, read.config().stations(), table)?;
+    keep_first(&mut lines)?;
+    Ok(lines)
 }

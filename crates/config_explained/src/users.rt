@@ -1,15 +1,14 @@
 //! Who may use each station, a text each, for those who show stations in a table of their own.
-ghost use Rattle.std.specs.Prelude.{◌≡◌, ◌≤◌, IfOk, IfSome, length, map, option_map};
-ghost use Rattle.std.specs.Str.{IsUtf8};
-ghost use Rattle.toml.specs.Parse.{parse_document};
+ghost use Rattle.std.specs.Prelude.{◌≡◌, ◌≤◌, IfOk, length, map, option_map};
+ghost use Rattle.config_explained.specs.ConfigTexts.{keys_of};
 ghost use Rattle.toml.specs.View.{table_view};
 ghost use Rattle.protocol.specs.Catalog.{stations_of};
 ghost use Rattle.config_explained.specs.Users.{users_from, users_text, users_texts};
 
+use crate::config_text::ConfigText;
 use crate::entries::put_list;
 use crate::holders::list_at;
-use catalog::keys::table_of;
-use catalog::{Config, ConfigFault, Station};
+use catalog::Station;
 use std::alloc::{AllocError, Global};
 use toml::Table;
 
@@ -45,13 +44,9 @@ fn users_at(alloc: Global, stations: &[Station], table: &Table) -> Result<Vec<Ve
 /// Who may use each station of a configuration, in order: the entries of the access list that holds for it, as they stand
 /// in the configuration's text, with a space between two: its own list, else the server's. A list without an entry admits
 /// `nobody`; without a list `everybody` may use the station. Only memory can lack.
-pub fn users_of(alloc: Global, config: &Config, text: &[u8]) -> Result<Vec<Vec<u8>>, AllocError>
-    ensures { IfOk result (λ texts. IsUtf8 text.now → IfSome (parse_document text.now)
-        (λ keys. map (λ t. t.items) texts.items ≡ users_texts keys (stations_of config.now))) }
+pub fn users_of(alloc: Global, read: &ConfigText) -> Result<Vec<Vec<u8>>, AllocError>
+    ensures { IfOk result (λ texts.
+        map (λ t. t.items) texts.items ≡ users_texts (keys_of read.now.text) (stations_of read.now.config)) }
 {
-    match table_of(alloc, text) {
-        Ok(table) => users_at(alloc, config.stations(), &table),
-        Err(ConfigFault::OutOfMemory) => Err(AllocError),
-        Err(_) => Ok(Vec::new(alloc)),
-    }
+    users_at(alloc, read.config().stations(), read.table())
 }

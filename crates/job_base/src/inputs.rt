@@ -1,6 +1,12 @@
 //! Files that are read whole, configurations among them.
-use catalog::{Config, ConfigError, ConfigFault};
-use config_explained::{ConfigFinding, RefusedConfig, cause_of, finding_of, limit_of};
+ghost use Rattle.std.specs.Prelude.{◌≡◌, IfOk, Ok};
+ghost use Rattle.toml.specs.Parse.{parse_document};
+ghost use Rattle.catalog.specs.Reading.{config_read};
+
+use catalog::{ConfigError, ConfigFault};
+use config_explained::{
+    ConfigFinding, ConfigText, RefusedConfig, RefusedText, cause_of, finding_of, limit_of,
+};
 use incidents::{Detail, Failure, Incident, Place};
 use protocol::reason::Reason;
 use std::alloc::Global;
@@ -9,9 +15,9 @@ use std::fs::File;
 use std::{fs, io};
 
 /// The configuration in a file.
-pub fn config_at<'a>(rt: &HostRuntime, path: &'a str) -> Result<Config, Incident<'a>> {
+pub fn config_at<'a>(rt: &HostRuntime, path: &'a str) -> Result<ConfigText, Incident<'a>> {
     let text = text_at(rt, path)?;
-    config_in(rt.alloc(), path, text.as_slice())
+    config_in(rt.alloc(), path, text)
 }
 
 /// The text of a configuration's file.
@@ -29,19 +35,27 @@ pub fn text_in<'a>(rt: &HostRuntime, path: &'a str, file: File) -> Result<Vec<u8
 }
 
 /// The configuration that the text of a file spells.
-pub fn config_in<'a>(alloc: Global, path: &'a str, text: &[u8]) -> Result<Config, Incident<'a>> {
-    match Config::read_by_steps(alloc, text) {
-        Ok(config) => Ok(config),
-        Err(error) => Err(refused(alloc, path, text, error)),
+pub fn config_in<'a>(
+    alloc: Global,
+    path: &'a str,
+    text: Vec<u8>,
+) -> Result<ConfigText, Incident<'a>>
+    ensures config { IfOk result (λ read. config_read (parse_document text.items) ≡ Ok read.config) }
+    ensures text { IfOk result (λ read. read.text ≡ text.items) }
+{
+    match ConfigText::read(alloc, text) {
+        Ok(read) => Ok(read),
+        Err(refused) => Err(explained(alloc, path, refused)),
     }
 }
 
 /// A configuration that is refused, and what is found where it is. Without memory that is nothing.
-fn refused<'a>(alloc: Global, path: &'a str, text: &[u8], error: ConfigError) -> Incident<'a> {
+fn explained<'a>(alloc: Global, path: &'a str, refused: RefusedText) -> Incident<'a> {
+    let RefusedText { error, text } = refused;
     if matches!(error.fault, ConfigFault::OutOfMemory) {
         return Incident::out_of_memory();
     }
-    let finding = match finding_of(alloc, text, &error) {
+    let finding = match finding_of(alloc, text.as_slice(), &error) {
         Ok(finding) => finding,
         Err(_) => ConfigFinding::Nothing,
     };

@@ -1,30 +1,23 @@
 //! Keys of a configuration that are not known, and so may be misspelled.
-ghost use Rattle.std.specs.Prelude.{◌≡◌, [], true, IfOk, IfErr, IfSome};
-ghost use Rattle.std.specs.Str.{IsUtf8};
-ghost use Rattle.toml.specs.Parse.{parse_document};
+ghost use Rattle.std.specs.Prelude.{◌≡◌, [], true, IfOk, IfErr};
+ghost use Rattle.config_explained.specs.ConfigTexts.{keys_of};
 ghost use Rattle.protocol.specs.Catalog.{stations_of};
 ghost use Rattle.config_explained.specs.Unknown.{named, unknown_text};
 ghost use Rattle.protocol.specs.declared.reason.Reason.TheVariants.{Missing};
 
-use crate::inputs::{config_in, text_at};
-use catalog::Config;
-use config_explained::unknown_keys;
+use crate::inputs::config_at;
+use config_explained::{ConfigText, unknown_keys};
 use incidents::{Failure, Incident};
 use protocol::reason::Reason;
 use shown_lines::ShownText;
 use std::alloc::Global;
 
 /// The lines that name the keys of a configuration's text that are not known.
-pub fn unknown_lines<'a>(
-    alloc: Global,
-    path: &'a str,
-    config: &Config,
-    text: &[u8],
-) -> Result<Vec<u8>, Incident<'a>>
-    ensures { IfOk result (λ lines. IsUtf8 text.now → IfSome (parse_document text.now)
-        (λ keys. lines.items ≡ named (unknown_text keys (stations_of config.now)))) }
+pub fn unknown_lines<'a>(alloc: Global, read: &ConfigText) -> Result<Vec<u8>, Incident<'a>>
+    ensures { IfOk result (λ lines.
+        lines.items ≡ named (unknown_text (keys_of read.now.text) (stations_of read.now.config))) }
 {
-    match unknown_keys(alloc, config, text) {
+    match unknown_keys(alloc, read) {
         Ok(lines) => Ok(lines),
         Err(_) => Err(Incident::out_of_memory()),
     }
@@ -64,14 +57,13 @@ fn tell_lines(rt: &HostRuntime, lines: &[u8]) {
 pub fn tell_unknown_keys<'a>(
     rt: &HostRuntime,
     path: &'a str,
-    config: &Config,
-    text: &[u8],
+    read: &ConfigText,
     is_strict: bool,
 ) -> Result<(), Incident<'a>>
-    ensures { IfOk result (λ _. is_strict ≡ true → IsUtf8 text.now → IfSome (parse_document text.now)
-        (λ keys. named (unknown_text keys (stations_of config.now)) ≡ [])) }
+    ensures { IfOk result (λ _. is_strict ≡ true →
+        named (unknown_text (keys_of read.now.text) (stations_of read.now.config)) ≡ []) }
 {
-    let lines = unknown_lines(rt.alloc(), path, config, text)?;
+    let lines = unknown_lines(rt.alloc(), read)?;
     tell_lines(rt, lines.as_slice());
     refuse_unknown(path, lines.as_slice(), is_strict)
 }
@@ -81,9 +73,8 @@ pub fn checked_config_at<'a>(
     rt: &HostRuntime,
     path: &'a str,
     is_strict: bool,
-) -> Result<Config, Incident<'a>> {
-    let text = text_at(rt, path)?;
-    let config = config_in(rt.alloc(), path, text.as_slice())?;
-    tell_unknown_keys(rt, path, &config, text.as_slice(), is_strict)?;
-    Ok(config)
+) -> Result<ConfigText, Incident<'a>> {
+    let read = config_at(rt, path)?;
+    tell_unknown_keys(rt, path, &read, is_strict)?;
+    Ok(read)
 }

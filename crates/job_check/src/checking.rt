@@ -54,8 +54,8 @@ fn check_by<'a>(
     options: CheckOptions<'a>,
     config: &'a str,
 ) -> Result<(), Incident<'a>> {
-    let config = config_at(rt, config)?;
-    check_named(rt, words, options, &ConfiguredStations::new(&config))
+    let read = config_at(rt, config)?;
+    check_named(rt, words, options, &ConfiguredStations::new(read.config()))
 }
 
 /// The same, of files that may have records of these stations.

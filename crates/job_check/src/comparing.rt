@@ -1,14 +1,12 @@
 //! What a new configuration changes, and for whom.
-ghost use Rattle.std.specs.Prelude.{◌≡◌, IfSome, OnOk};
-ghost use Rattle.std.specs.Str.{IsUtf8};
+ghost use Rattle.std.specs.Prelude.{◌≡◌, OnOk};
+ghost use Rattle.config_explained.specs.ConfigTexts.{keys_of};
 ghost use Rattle.std.specs.Io.KnownBytes.{Appends};
-ghost use Rattle.toml.specs.Parse.{parse_document};
 ghost use Rattle.config_explained.specs.Changes.{changes_text};
 ghost use Rattle.protocol.specs.declared.reason.Reason.TheVariants.{File};
 
 use crate::viewing::write_text;
-use catalog::Config;
-use config_explained::{Difference, changes_of, first_difference};
+use config_explained::{ConfigText, Difference, changes_of, first_difference};
 use incidents::{Failure, Incident, Place, Site};
 use job_base::{config_in, lines_of, open, tell_unknown_keys, text_in};
 use protocol::reason::Reason;
@@ -16,21 +14,17 @@ use sl_io::{Outer, Sink, StreamFault};
 use std::alloc::Global;
 use std::io;
 
-/// Writes what changes, and for whom, if a server that runs one configuration is given another, a line each. Each is
-/// that of its text.
+/// Writes what changes, and for whom, if a server that runs one configuration is given another, a line each.
 pub fn list_changes<W: Sink>(
     alloc: Global,
-    old: &Config,
-    old_text: &[u8],
-    new: &Config,
-    new_text: &[u8],
+    old: &ConfigText,
+    new: &ConfigText,
     out: &mut W,
 ) -> Result<(), StreamFault>
-    ensures { OnOk result (IsUtf8 old_text.now → IsUtf8 new_text.now
-        → IfSome (parse_document old_text.now) (λ keys. IfSome (parse_document new_text.now) (λ keys'.
-        Appends (W.written out.old) (W.written out.new) (changes_text keys keys' old.now new.now)))) }
+    ensures { OnOk result (Appends (W.written out.old) (W.written out.new)
+        (changes_text (keys_of old.now.text) (keys_of new.now.text) old.now.config new.now.config)) }
 {
-    match changes_of(alloc, old, old_text, new, new_text) {
+    match changes_of(alloc, old, new) {
         Ok(lines) => write_text(lines.as_slice(), out),
         Err(_) => Err(StreamFault::OutOfMemory),
     }
@@ -57,15 +51,13 @@ fn write_difference<'a, W: Sink>(
 /// Writes what changes, and explains the first difference for which a running server refuses the new configuration.
 fn write_all<'a>(
     rt: &HostRuntime,
-    old: &Config,
-    old_text: &[u8],
+    old: &ConfigText,
     path: &'a str,
-    new: &Config,
-    new_text: &[u8],
+    new: &ConfigText,
 ) -> Result<(), StreamFault> {
     let mut out = Outer::new(io::writer(rt));
-    list_changes(rt.alloc(), old, old_text, new, new_text, &mut out)?;
-    match first_difference(rt.alloc(), old, new) {
+    list_changes(rt.alloc(), old, new, &mut out)?;
+    match first_difference(rt.alloc(), old.config(), new.config()) {
         Ok(Some(difference)) => write_difference(rt.alloc(), path, difference, &mut out),
         Ok(None) => Ok(()),
         Err(_) => Err(StreamFault::OutOfMemory),
@@ -76,15 +68,14 @@ fn write_all<'a>(
 /// what it changes.
 fn compare<'a>(
     rt: &HostRuntime,
-    old: &Config,
-    old_text: &[u8],
+    old: &ConfigText,
     path: &'a str,
-    new_text: &[u8],
+    new_text: Vec<u8>,
     is_strict: bool,
 ) -> Result<(), Incident<'a>> {
     let new = config_in(rt.alloc(), path, new_text)?;
-    tell_unknown_keys(rt, path, &new, new_text, is_strict)?;
-    match write_all(rt, old, old_text, path, &new, new_text) {
+    tell_unknown_keys(rt, path, &new, is_strict)?;
+    match write_all(rt, old, path, &new) {
         Ok(()) => Ok(()),
         Err(fault) => Err(Failure::of(fault.reason()).in_file(path)),
     }
@@ -120,8 +111,7 @@ fn unopened_who<'a>(incident: Incident<'a>) -> Incident<'a>
 /// that are not known are named on the standard error, and with `is_strict` it is refused for them.
 pub fn write_changes<'a>(
     rt: &HostRuntime,
-    old: &Config,
-    old_text: &[u8],
+    old: &ConfigText,
     path: &'a str,
     is_strict: bool,
 ) -> Result<(), Incident<'a>> {
@@ -130,5 +120,5 @@ pub fn write_changes<'a>(
         Err(incident) => return Err(unopened_who(incident)),
     };
     let new_text = text_in(rt, path, file)?;
-    compare(rt, old, old_text, path, new_text.as_slice(), is_strict)
+    compare(rt, old, path, new_text, is_strict)
 }

@@ -177,7 +177,7 @@ pub fn replay_files<'a>(
     config: &'a str,
     script: &'a str,
 ) -> Result<(), Incident<'a>> {
-    let config = config_at(rt, config)?;
+    let config = config_at(rt, config)?.into_config();
     let file = open(rt, script)?;
     replay_open(rt, style, config, script, file)
 }

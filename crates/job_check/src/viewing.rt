@@ -3,11 +3,10 @@
 //! Of two configurations beside each other (`view OLD NEW`), a station that one does not have counts as one that nobody
 //! may use there. A word that is neither an address nor a network is a file, so a misspelled address is 44, before 11.
 //! Unknown keys are named of NEW alone: OLD is what runs already.
-ghost use Rattle.std.specs.Prelude.{◌≡◌, IfOk, IfSome, OnOk, is_some};
-ghost use Rattle.std.specs.Str.{IsUtf8};
+ghost use Rattle.std.specs.Prelude.{◌≡◌, IfOk, OnOk, is_some};
+ghost use Rattle.config_explained.specs.ConfigTexts.{keys_of};
 ghost use Rattle.std.specs.Io.KnownBytes.{Appends};
 ghost use Rattle.std.specs.Net.Addr.{ipv4_bits};
-ghost use Rattle.toml.specs.Parse.{parse_document};
 ghost use Rattle.protocol.specs.Catalog.{stations_of, view_of};
 ghost use Rattle.config_explained.specs.Holders.{holder_text, holders_text};
 ghost use Rattle.job_check.specs.Viewing.{or_nothing};
@@ -18,9 +17,9 @@ use crate::comparing::write_changes;
 use access_list::address;
 use catalog::Config;
 use command_line::ViewOptions;
-use config_explained::{Network, holder_of, holders_of, parts_of, remarks, seen_by};
+use config_explained::{ConfigText, Network, holder_of, holders_of, parts_of, remarks, seen_by};
 use incidents::{Failure, Incident};
-use job_base::{config_in, tell_unknown_keys, text_at};
+use job_base::{config_at, tell_unknown_keys};
 use protocol::reason::Reason;
 use shown_lines::ShownText;
 use sl_io::{Outer, Sink, StreamFault, write_all};
@@ -54,18 +53,17 @@ pub fn list_seen<W: Sink>(
     }
 }
 
-/// Writes all stations of a configuration, which is that of a text, in order, a line each: `NET STA LIST`, with the
-/// entries of the access list that holds for it.
+/// Writes all stations of a configuration, in order, a line each: `NET STA LIST`, with the entries of the access list
+/// that holds for it.
 pub fn list_holders<W: Sink>(
     alloc: Global,
-    config: &Config,
-    text: &[u8],
+    read: &ConfigText,
     out: &mut W,
 ) -> Result<(), StreamFault>
-    ensures { OnOk result (IsUtf8 text.now → IfSome (parse_document text.now) (λ keys.
-        Appends (W.written out.old) (W.written out.new) (holders_text keys (stations_of config.now)))) }
+    ensures { OnOk result (Appends (W.written out.old) (W.written out.new)
+        (holders_text (keys_of read.now.text) (stations_of read.now.config))) }
 {
-    match holders_of(alloc, config, text) {
+    match holders_of(alloc, read) {
         Ok(lines) => write_text(lines.as_slice(), out),
         Err(_) => Err(StreamFault::OutOfMemory),
     }
@@ -75,19 +73,17 @@ pub fn list_holders<W: Sink>(
 /// whether there is one.
 pub fn list_station<W: Sink>(
     alloc: Global,
-    config: &Config,
-    text: &[u8],
+    read: &ConfigText,
     network: &[u8],
     code: &[u8],
     out: &mut W,
 ) -> Result<bool, StreamFault>
-    ensures lines { IfOk result (λ _. IsUtf8 text.now → IfSome (parse_document text.now) (λ keys.
-        Appends (W.written out.old) (W.written out.new)
-        (or_nothing (holder_text keys config.now network.now code.now)))) }
-    ensures found { IfOk result (λ found. IsUtf8 text.now → IfSome (parse_document text.now) (λ keys.
-        found ≡ is_some (holder_text keys config.now network.now code.now))) }
+    ensures lines { OnOk result (Appends (W.written out.old) (W.written out.new)
+        (or_nothing (holder_text (keys_of read.now.text) read.now.config network.now code.now))) }
+    ensures found { IfOk result (λ found.
+        found ≡ is_some (holder_text (keys_of read.now.text) read.now.config network.now code.now)) }
 {
-    match holder_of(alloc, config, text, network, code) {
+    match holder_of(alloc, read, network, code) {
         Ok(Some(line)) => {
             write_text(line.as_slice(), out)?;
             Ok(true)
@@ -104,15 +100,14 @@ pub fn list_station<W: Sink>(
 /// the station, `none` if no address of it may, else `some`.
 pub fn list_parts<W: Sink>(
     alloc: Global,
-    config: &Config,
-    text: &[u8],
+    read: &ConfigText,
     network: Network,
     out: &mut W,
 ) -> Result<(), StreamFault>
-    ensures { OnOk result (IsUtf8 text.now → IfSome (parse_document text.now) (λ keys.
-        Appends (W.written out.old) (W.written out.new) (parts_text keys network (stations_of config.now)))) }
+    ensures { OnOk result (Appends (W.written out.old) (W.written out.new)
+        (parts_text (keys_of read.now.text) network (stations_of read.now.config))) }
 {
-    match parts_of(alloc, config, text, network) {
+    match parts_of(alloc, read, network) {
         Ok(lines) => write_text(lines.as_slice(), out),
         Err(_) => Err(StreamFault::OutOfMemory),
     }
@@ -155,8 +150,8 @@ fn asked_in<'a>(options: &ViewOptions<'a>) -> ViewAsked<'a> {
 
 /// Names the entries of a configuration's lists that admit something else than their text looks like, a line each on
 /// the standard error.
-fn tell_remarks(rt: &HostRuntime, config: &Config, text: &[u8]) -> Result<(), StreamFault> {
-    match remarks(rt.alloc(), config, text) {
+fn tell_remarks(rt: &HostRuntime, read: &ConfigText) -> Result<(), StreamFault> {
+    match remarks(rt.alloc(), read) {
         Ok(lines) => {
             if let Ok(lines) = str::from_utf8(lines.as_slice()) {
                 let _ = eprint!(rt; "{}", ShownText(lines));
@@ -168,42 +163,37 @@ fn tell_remarks(rt: &HostRuntime, config: &Config, text: &[u8]) -> Result<(), St
 }
 
 /// Writes all stations with whom they are open to, and then names what the lists don't look like.
-fn write_all_stations(rt: &HostRuntime, config: &Config, text: &[u8]) -> Result<(), StreamFault> {
+fn write_all_stations(rt: &HostRuntime, read: &ConfigText) -> Result<(), StreamFault> {
     let mut out = Outer::new(io::writer(rt));
-    list_holders(rt.alloc(), config, text, &mut out)?;
-    tell_remarks(rt, config, text)
+    list_holders(rt.alloc(), read, &mut out)?;
+    tell_remarks(rt, read)
 }
 
 /// Writes what an address sees.
-fn write_seen(rt: &HostRuntime, config: &Config, address: Ipv4Addr) -> Result<(), StreamFault> {
+fn write_seen(rt: &HostRuntime, read: &ConfigText, address: Ipv4Addr) -> Result<(), StreamFault> {
     let mut out = Outer::new(io::writer(rt));
-    list_seen(rt.alloc(), config, address, &mut out)
+    list_seen(rt.alloc(), read.config(), address, &mut out)
 }
 
 /// Writes how much of a network sees each station.
-fn write_parts(
-    rt: &HostRuntime,
-    config: &Config,
-    text: &[u8],
-    network: Network,
-) -> Result<(), StreamFault> {
+fn write_parts(rt: &HostRuntime, read: &ConfigText, network: Network) -> Result<(), StreamFault> {
     let mut out = Outer::new(io::writer(rt));
-    list_parts(rt.alloc(), config, text, network, &mut out)
+    list_parts(rt.alloc(), read, network, &mut out)
 }
 
 /// Writes who may use the station that a word names, `NET_STA`. Whether there is one.
-fn write_station(
-    rt: &HostRuntime,
-    config: &Config,
-    text: &[u8],
-    word: &str,
-) -> Result<bool, StreamFault> {
+fn write_station(rt: &HostRuntime, read: &ConfigText, word: &str) -> Result<bool, StreamFault> {
     let Some((network, code)) = word.split_once('_') else {
         return Ok(false);
     };
     let mut out = Outer::new(io::writer(rt));
-    let (network, code) = (network.as_bytes(), code.as_bytes());
-    list_station(rt.alloc(), config, text, network, code, &mut out)
+    list_station(
+        rt.alloc(),
+        read,
+        network.as_bytes(),
+        code.as_bytes(),
+        &mut out,
+    )
 }
 
 /// What is said of a word that names no station of the configuration.
@@ -214,15 +204,14 @@ fn no_station() -> Failure {
     )
 }
 
-/// The same. It fails if there is none.
+/// Writes who may use the station that a word names. It fails if there is none.
 fn view_station<'a>(
     rt: &HostRuntime,
     options: &ViewOptions<'a>,
-    config: &Config,
-    text: &[u8],
+    read: &ConfigText,
     word: &'a str,
 ) -> Result<(), Incident<'a>> {
-    match write_station(rt, config, text, word) {
+    match write_station(rt, read, word) {
         Ok(true) => Ok(()),
         Ok(false) => Err(no_station().in_word(word)),
         Err(fault) => Err(Failure::of(fault.reason()).in_file(options.config)),
@@ -233,15 +222,14 @@ fn view_station<'a>(
 fn write_view<'a>(
     rt: &HostRuntime,
     options: &ViewOptions<'a>,
-    config: &Config,
-    text: &[u8],
+    read: &ConfigText,
 ) -> Result<(), Incident<'a>> {
     let written = match asked_in(options) {
-        ViewAsked::Everything => write_all_stations(rt, config, text),
-        ViewAsked::Address(address) => write_seen(rt, config, address),
-        ViewAsked::Network(network) => write_parts(rt, config, text, network),
-        ViewAsked::Station(word) => return view_station(rt, options, config, text, word),
-        ViewAsked::Other(path) => return write_changes(rt, config, text, path, options.is_strict),
+        ViewAsked::Everything => write_all_stations(rt, read),
+        ViewAsked::Address(address) => write_seen(rt, read, address),
+        ViewAsked::Network(network) => write_parts(rt, read, network),
+        ViewAsked::Station(word) => return view_station(rt, options, read, word),
+        ViewAsked::Other(path) => return write_changes(rt, read, path, options.is_strict),
     };
     match written {
         Ok(()) => Ok(()),
@@ -249,36 +237,15 @@ fn write_view<'a>(
     }
 }
 
-/// Names the keys of a configuration that are not known, for which it is refused if the options are strict, and writes
-/// the view. If it is compared with another one, the keys of that are named instead.
-fn view_config<'a>(
-    rt: &HostRuntime,
-    options: &ViewOptions<'a>,
-    config: &Config,
-    text: &[u8],
-) -> Result<(), Incident<'a>> {
-    if matches!(asked_in(options), ViewAsked::Other(_)) {
-        return write_view(rt, options, config, text);
-    }
-    tell_unknown_keys(rt, options.config, config, text, options.is_strict)?;
-    write_view(rt, options, config, text)
-}
-
-/// The same of the configuration that the text of a file spells.
-fn view_text<'a>(
-    rt: &HostRuntime,
-    options: &ViewOptions<'a>,
-    text: &[u8],
-) -> Result<(), Incident<'a>> {
-    let config = config_in(rt.alloc(), options.config, text)?;
-    view_config(rt, options, &config, text)
-}
-
 /// Writes what an address sees of the configuration in a file, or how much of a network sees each station, or who may
 /// use a station of it, or what another configuration changes, or all stations with whom they are open to. In the last
 /// case entries of lists that admit something else than they look like are named on the standard error. So are keys
-/// that are not known, and if the options are strict the configuration is refused for them.
+/// that are not known, and if the options are strict the configuration is refused for them. If it is compared with
+/// another one, the keys of that are named instead.
 pub fn view_file<'a>(rt: &HostRuntime, options: ViewOptions<'a>) -> Result<(), Incident<'a>> {
-    let text = text_at(rt, options.config)?;
-    view_text(rt, &options, text.as_slice())
+    let read = config_at(rt, options.config)?;
+    if !matches!(asked_in(&options), ViewAsked::Other(_)) {
+        tell_unknown_keys(rt, options.config, &read, options.is_strict)?;
+    }
+    write_view(rt, &options, &read)
 }

@@ -349,8 +349,8 @@ pub fn feed_files<'a>(
 ) -> Result<(), Incident<'a>> {
     match options.config {
         Some(path) => {
-            let config = checked_config_at(rt, path, false)?;
-            let stations = ConfiguredStations::new(&config);
+            let read = checked_config_at(rt, path, false)?;
+            let stations = ConfiguredStations::new(read.config());
             feed_by(rt, server, files, options, &stations, is_verbose)
         }
         None => feed_by(rt, server, files, options, &AllStations, is_verbose),

@@ -8,9 +8,9 @@ use crate::numbers::NumberFile;
 use crate::status::{StatusDoor, status_door};
 use catalog::Config;
 use command_line::ServeOptions;
-use config_explained::open_to_everybody;
+use config_explained::{ConfigText, open_to_everybody};
 use incidents::Incident;
-use job_base::{ServerAddress, config_in, plain_at, server_of, tell_unknown_keys, text_at};
+use job_base::{ServerAddress, checked_config_at, plain_at, server_of};
 use ports_socket::Admission;
 use std::alloc::Global;
 
@@ -46,6 +46,7 @@ pub fn doors_of<'a>(
 /// What a server serves, and how many of its stations everybody may use, if that is told.
 #[derive(Drop)]
 pub struct Served<'a> {
+    /// The configuration that it begins with: what was read, and the kept numbers.
     pub config: Config,
     pub open: usize,
     pub files: ServedFiles<'a>,
@@ -54,9 +55,10 @@ pub struct Served<'a> {
 /// What the files of a server said when it began.
 #[derive(Drop)]
 pub struct ServedFiles<'a> {
-    /// Its configuration once more, for whoever compares a new one with it, and the text of that.
+    /// The configuration that it begins with once more, for whoever compares a new one with it.
     pub in_force: Config,
-    pub text: Vec<u8>,
+    /// The same as it was read.
+    pub read: ConfigText,
     pub numbers: Option<Box<NumberFile<'a>>>,
 }
 
@@ -71,23 +73,32 @@ pub fn served_by<'a>(
     if options.reread.is_some() {
         plain_at(rt, options.config)?;
     }
-    let (mut config, text) = configured(rt, options)?;
-    let open = open_for(rt.alloc(), options, &config, text.as_slice())?;
-    tell_missing(rt, config.max_connections());
+    let read = checked_config_at(rt, options.config, options.is_strict)?;
+    let open = open_for(rt.alloc(), options, &read)?;
+    tell_missing(rt, read.config().max_connections());
+    let mut config = copy_of(rt.alloc(), read.config())?;
     let numbers = match options.numbers {
         Some(path) => Some(numbers_at(rt, path, &mut config)?),
         None => None,
     };
-    match config.copy(rt.alloc()) {
-        Ok(in_force) => Ok(Served {
-            config,
-            open,
-            files: ServedFiles {
-                in_force,
-                text,
-                numbers,
-            },
-        }),
+    let in_force = copy_of(rt.alloc(), &config)?;
+    Ok(Served {
+        config,
+        open,
+        files: ServedFiles {
+            in_force,
+            read,
+            numbers,
+        },
+    })
+}
+
+/// A configuration once more.
+pub fn copy_of<'a>(alloc: Global, config: &Config) -> Result<Config, Incident<'a>>
+    ensures { IfOk result (λ copy. copy ≡ config.now) }
+{
+    match config.copy(alloc) {
+        Ok(copy) => Ok(copy),
         Err(_) => Err(Incident::out_of_memory()),
     }
 }
@@ -104,29 +115,16 @@ fn numbers_at<'a>(
     }
 }
 
-/// The configuration and its text. Keys of it that are not known are named.
-fn configured<'a>(
-    rt: &HostRuntime,
-    options: &ServeOptions<'a>,
-) -> Result<(Config, Vec<u8>), Incident<'a>> {
-    let path = options.config;
-    let text = text_at(rt, path)?;
-    let config = config_in(rt.alloc(), path, text.as_slice())?;
-    tell_unknown_keys(rt, path, &config, text.as_slice(), options.is_strict)?;
-    Ok((config, text))
-}
-
 /// How many stations everybody may use, if that is told.
 fn open_for<'a>(
     alloc: Global,
     options: &ServeOptions<'a>,
-    config: &Config,
-    text: &[u8],
+    read: &ConfigText,
 ) -> Result<usize, Incident<'a>> {
     if !options.is_logged {
         return Ok(0);
     }
-    match open_to_everybody(alloc, config, text) {
+    match open_to_everybody(alloc, read) {
         Ok(open) => Ok(open),
         Err(_) => Err(Incident::out_of_memory()),
     }

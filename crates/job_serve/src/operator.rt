@@ -10,7 +10,7 @@ ghost use Rattle.job_serve.specs.Timetables.{timetable_of};
 ghost use Rattle.incidents.specs.declared.incident.Incident.{Incident};
 
 use crate::numbers::NumberFile;
-use crate::opening::ServedFiles;
+use crate::opening::{ServedFiles, copy_of};
 use crate::spare::Spare;
 use crate::starting::InForceLine;
 use crate::status::StatusDesk;
@@ -18,7 +18,7 @@ use crate::timetable::timetable_of;
 use crate::visits::SharedLines;
 use catalog::Config;
 use command_line::ServeOptions;
-use config_explained::{Difference, first_difference};
+use config_explained::{ConfigText, Difference, first_difference};
 use error_lines::ErrorLine;
 use event_loop::Loop;
 use files::microseconds;
@@ -78,9 +78,9 @@ pub struct Operator<'r, 'a, 'l> {
     status: Option<StatusDesk<'l>>,
     /// Whether it is told when another configuration comes into force.
     is_logged: bool,
-    /// The configuration in force, and its text.
+    /// The configuration in force, and the text in force as it was read.
     in_force: Config,
-    text: Vec<u8>,
+    read: ConfigText,
     /// What the configuration that was read last differs in first, but for access lists.
     difference: Option<Difference>,
 }
@@ -133,9 +133,9 @@ impl<'a> Operator<'_, 'a, '_> {
     }
 
     /// The status port tells who may use each station by the text in force.
-    fn take_config(&mut self, alloc: Global, config: &Config) {
+    fn take_config(&mut self, alloc: Global) {
         if let Some(status) = &mut self.status {
-            status.take_config(alloc, config, self.text.as_slice());
+            status.take_config(alloc, &self.read);
         }
     }
 
@@ -170,7 +170,7 @@ impl<'r, 'a, 'l> Operator<'r, 'a, 'l> {
         let options = request.options;
         let ServedFiles {
             in_force,
-            text,
+            read,
             numbers,
         } = files;
         Operator {
@@ -189,7 +189,7 @@ impl<'r, 'a, 'l> Operator<'r, 'a, 'l> {
             errors,
             status,
             is_logged: options.is_logged,
-            text,
+            read,
             in_force,
             difference: None,
         }
@@ -247,13 +247,13 @@ impl<'a> Operator<'_, 'a, '_> {
 
     /// The configuration that a text spells. Keys that are not known are named if they are others than those that were
     /// named last, and if it is strict, the configuration is refused for them.
-    fn config_of(&mut self, text: &[u8]) -> Result<Config, Incident<'a>> {
+    fn config_of(&mut self, text: Vec<u8>) -> Result<ConfigText, Incident<'a>> {
         let alloc = self.rt.alloc();
-        let config = config_in(alloc, self.path, text)?;
-        let lines = unknown_lines(alloc, self.path, &config, text)?;
+        let read = config_in(alloc, self.path, text)?;
+        let lines = unknown_lines(alloc, &read)?;
         self.tell_unknown(lines);
         refuse_unknown(self.path, self.unknown.as_slice(), self.is_strict)?;
-        Ok(config)
+        Ok(read)
     }
 
     /// The text is the one in force: there is nothing that it differs in, and no key of another one.
@@ -264,13 +264,13 @@ impl<'a> Operator<'_, 'a, '_> {
 
     /// Compares a configuration of another text with the one in force. If it differs in access lists alone, it comes
     /// into force, and its text with it.
-    fn compare(&mut self, config: &Config, text: Vec<u8>) {
+    fn compare(&mut self, config: &Config, read: ConfigText) {
         let alloc = self.rt.alloc();
         match first_difference(alloc, &self.in_force, config) {
             Ok(None) => {
                 self.difference = None;
-                self.text = text;
-                self.take_config(alloc, config);
+                self.read = read;
+                self.take_config(alloc);
                 if self.is_logged {
                     self.note_in_force(alloc, config);
                 }
@@ -302,15 +302,16 @@ impl<'a> Between for Operator<'_, 'a, '_> {
     /// By its text: one that is the same, byte for byte, is not read as a configuration again.
     fn configuration(&mut self) -> Result<Option<Config>, Incident<'a>> {
         let text = self.read_text()?;
-        if text.as_slice() == self.text.as_slice() {
+        if text.as_slice() == self.read.text() {
             self.note_unchanged();
             return Ok(None);
         }
-        let mut config = self.config_of(text.as_slice())?;
+        let read = self.config_of(text)?;
+        let mut config = copy_of(self.rt.alloc(), read.config())?;
         if let Some(file) = &self.numbers {
             file.begin(&mut config);
         }
-        self.compare(&config, text);
+        self.compare(&config, read);
         Ok(Some(config))
     }
 

@@ -6,7 +6,7 @@ use crate::operator::no_memory;
 use access_list::AccessList;
 use catalog::Config;
 use command_line::{ServeOptions, VERSION};
-use config_explained::users_of;
+use config_explained::{ConfigText, users_of};
 use event_loop::Loop;
 use incidents::Incident;
 use job_base::{ServerAddress, refused_list, server_of};
@@ -95,9 +95,9 @@ pub struct StatusDesk<'l> {
     looked: Option<u64>,
 }
 
-/// Who may use each station of a configuration that is that of a text, a text each; without memory for them none.
-fn users_in(alloc: Global, config: &Config, text: &[u8]) -> Vec<Vec<u8>> {
-    match users_of(alloc, config, text) {
+/// Who may use each station of a configuration, a text each; without memory for them none.
+fn users_in(alloc: Global, read: &ConfigText) -> Vec<Vec<u8>> {
+    match users_of(alloc, read) {
         Ok(users) => users,
         Err(_) => Vec::new(alloc),
     }
@@ -138,7 +138,7 @@ impl<'l> StatusDesk<'l> {
             counts,
             began,
             silent_after: silent.unwrap_or(SILENT) as u64,
-            users: users_in(alloc, &served.config, served.files.text.as_slice()),
+            users: users_in(alloc, &served.files.read),
             looked: None,
         })
     }
@@ -148,9 +148,9 @@ impl<'l> StatusDesk<'l> {
         self.counts
     }
 
-    /// A configuration, which is that of a text, comes into force.
-    pub fn take_config(&mut self, alloc: Global, config: &Config, text: &[u8]) {
-        self.users = users_in(alloc, config, text);
+    /// A configuration comes into force.
+    pub fn take_config(&mut self, alloc: Global, read: &ConfigText) {
+        self.users = users_in(alloc, read);
     }
 
     /// A turn ends, at a time in microseconds.

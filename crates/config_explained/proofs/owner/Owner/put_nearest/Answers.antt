@@ -14,7 +14,7 @@ returns c =
     let near : List ℕ = name_of c.in-Some.near in
     let old = c.args.text.now.items in
     let found : Some near ≡ nearest c.args.key.now (map name_of (keys_of o)) =
-    ap (option_map name_of) (sym c.in-Some.is) ∙ c.nearest.ensures
+    ap (option_map name_of) (sym c.in-Some.is) ∙ c.in_ok-near.ensures
     ∙ ap (λ ks. nearest c.args.key.now (map name_of ks)) c.keys.ensures in
     let a : c.put.new.text.items ≡ old ++ codes "; did you mean " = c.in_ok-put.ensures in
     let b : c.put-2.new.text.items ≡ c.put.new.text.items ++ near = rw (c.as_bytes.ensures.value, c.name.ensures) at c.in_ok-put-2.ensures in
