@@ -1,33 +1,72 @@
--- Texts that are escaped: pieces, each an escape or one byte that needs none.
-use Rattle.std.specs.Prelude.{◌≡◌, ◌⊎◌, ℕ, ◌==◌, false, List, [], ◌∷◌, codes}
-use Rattle.status_page.specs.Parts.{joined}
+-- How a value stands in a text, and what is then true of the text: it is made of the texts of its template, of escapes
+-- and of single bytes that mean nothing in its language. HTML: character references. Prometheus, text format 0.0.4:
+-- values of labels.
+use Rattle.std.specs.Prelude.{◌≡◌, ◌⊎◌, ℕ, ◌==◌, ◌||◌, nat_lt, false, if◌then◌else◌, List, [], ◌∷◌, ◌++◌, codes}
+use Rattle.std.specs.Prelude.{flat_map}
+use Rattle.status_page.specs.declared.escape.Language.{Language}
+use Rattle.status_page.specs.declared.escape.Language.TheVariants.{Html, Metrics, Plain}
+
+-- a byte as HTML has it: `&` is 38, `<` is 60, `>` is 62, `"` is 34, `'` is 39
+abbrev pub html_byte : ℕ → List ℕ
+html_byte b =
+    if b == 38 then codes "&amp;" else if b == 60 then codes "&lt;" else if b == 62 then codes "&gt;"
+    else if b == 34 then codes "&quot;" else if b == 39 then codes "&#39;" else b ∷ []
+
+-- a byte of the value of a label: `\` is 92, `"` is 34, LF is 10, `n` is 110
+abbrev pub label_byte : ℕ → List ℕ
+label_byte b =
+    if b == 92 then 92 ∷ 92 ∷ [] else if b == 34 then 92 ∷ 34 ∷ [] else if b == 10 then 92 ∷ 110 ∷ [] else b ∷ []
+
+-- a byte that is shown: what controls a terminal is `?`, 63
+abbrev pub shown_byte : ℕ → List ℕ
+shown_byte b = if nat_lt b 32 || (b == 127) then 63 ∷ [] else b ∷ []
+
+abbrev pub escaped_byte : Language → ℕ → List ℕ
+escaped_byte Html b = html_byte b
+escaped_byte Metrics b = label_byte b
+escaped_byte Plain b = shown_byte b
+
+-- a value
+abbrev pub escaped : Language → List ℕ → List ℕ
+escaped language bytes = flat_map (escaped_byte language) bytes
+
+-- ---- what no value can say
+
+-- the escapes of a language
+abbrev pub escapes : Language → List (List ℕ)
+escapes Html = codes "&amp;" ∷ codes "&lt;" ∷ codes "&gt;" ∷ codes "&quot;" ∷ codes "&#39;" ∷ []
+escapes Metrics = (92 ∷ 92 ∷ []) ∷ (92 ∷ 34 ∷ []) ∷ (92 ∷ 110 ∷ []) ∷ []
+escapes Plain = []
+
+-- A byte means nothing there: in HTML it is none of the five, in a label no backslash, double quote or LF, and in plain
+-- text it controls no terminal.
+abbrev pub IsHarmless : Language → ℕ → Type 0
+IsHarmless Html b =
+    ((b == 38) ≡ false) × ((b == 60) ≡ false) × ((b == 62) ≡ false) × ((b == 34) ≡ false) × ((b == 39) ≡ false)
+IsHarmless Metrics b = ((b == 92) ≡ false) × ((b == 34) ≡ false) × ((b == 10) ≡ false)
+IsHarmless Plain b = (nat_lt b 32 || (b == 127)) ≡ false
 
 -- It is one of some texts.
 abbrev pub IsOneOf : List (List ℕ) → List ℕ → Type 0
 IsOneOf [] piece = ⊥
 IsOneOf (t ∷ ts) piece = (piece ≡ t) ⊎ IsOneOf ts piece
 
+-- a piece of a text: one of the template's own texts, an escape, or a byte that means nothing
+abbrev pub IsPiece : Language → (own : List (List ℕ)) → List ℕ → Type 0
+IsPiece language own piece =
+    IsOneOf own piece ⊎ (IsOneOf (escapes language) piece ⊎ ((b : ℕ) × (piece ≡ b ∷ []) × IsHarmless language b))
+
 -- That is so of each element.
 abbrev pub AreAll : {X : Type 0} → (X → Type 0) → List X → Type 0
 AreAll P [] = Unit {0}
 AreAll P (x ∷ xs) = P x × AreAll P xs
 
--- one byte that is not among some marks
-abbrev pub IsByteBut : (marks : List ℕ) → List ℕ → Type 0
-IsByteBut marks piece = (b : ℕ) × (piece ≡ b ∷ []) × AreAll (λ mark. (b == mark) ≡ false) marks
+-- texts, one after the other
+abbrev pub joined : List (List ℕ) → List ℕ
+joined [] = []
+joined (t ∷ ts) = t ++ joined ts
 
--- It is such pieces, one after the other.
-abbrev pub IsOfPieces : (escapes : List (List ℕ)) (marks : List ℕ) → List ℕ → Type 0
-IsOfPieces escapes marks text =
-    (pieces : List (List ℕ)) × (text ≡ joined pieces)
-    × AreAll (λ piece. IsOneOf escapes piece ⊎ IsByteBut marks piece) pieces
-
--- HTML: no `&` (38), `<` (60), `>` (62), `"` (34) or `'` (39) stands bare
-abbrev pub IsHtmlText : List ℕ → Type 0
-IsHtmlText =
-    IsOfPieces (codes "&amp;" ∷ codes "&lt;" ∷ codes "&gt;" ∷ codes "&quot;" ∷ codes "&#39;" ∷ [])
-    (38 ∷ 60 ∷ 62 ∷ 34 ∷ 39 ∷ [])
-
--- a label: no backslash (92), `"` (34) or LF (10) stands bare
-abbrev pub IsLabelText : List ℕ → Type 0
-IsLabelText = IsOfPieces ((92 ∷ 92 ∷ []) ∷ (92 ∷ 34 ∷ []) ∷ (92 ∷ 110 ∷ []) ∷ []) (92 ∷ 34 ∷ 10 ∷ [])
+-- A text is such pieces, one after the other: nothing in it but the template's own texts means anything.
+abbrev pub IsEscaped : Language → (own : List (List ℕ)) → List ℕ → Type 0
+IsEscaped language own text =
+    (pieces : List (List ℕ)) × (text ≡ joined pieces) × AreAll (IsPiece language own) pieces

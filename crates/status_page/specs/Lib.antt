@@ -1,9 +1,8 @@
-pub mod Parts
 pub mod Values
-pub mod Pages
-pub mod Metrics
-pub mod Plain
+pub mod Texts
 pub mod Escapes
+pub mod Places
+pub mod Templates
 pub mod Hosts
 pub mod Requests
 pub mod Answers

@@ -29,8 +29,8 @@ request_of method path =
     else if bytes_eq method (codes "HEAD") then record { target = target_of path; is_head = true }
     else record { target = NotAllowed; is_head = false }
 
--- what is asked by a head: nothing is told whoever asks by the name of another site
-unfoldable pub asked_by : RequestHead → StatusRequest
-asked_by h =
-    if any_foreign h.fields then record (request_of h.method h.target) { target = Misdirected }
+-- what is asked of a server of a name by a head: nothing is told whoever asks by the name of another site
+unfoldable pub asked_by : (name : List ℕ) → RequestHead → StatusRequest
+asked_by name h =
+    if any_foreign name h.fields then record (request_of h.method h.target) { target = Misdirected }
     else request_of h.method h.target

@@ -1,15 +1,64 @@
 //! Answers: a head and a body.
-ghost use Rattle.std.specs.Prelude.{◌≡◌, ◌++◌, OnOk, [], codes, length};
-ghost use Rattle.status_page.specs.Answers.{answer_text, body_text, code_of, fields_text, head_text, health_body};
-ghost use Rattle.status_page.specs.Answers.{kind_of};
+ghost use Rattle.std.specs.Prelude.{◌≡◌, ◌++◌, OnOk};
+ghost use Rattle.status_page.specs.Answers.{answer_text, body_text, code_of, head_of, health_text, kind_of};
+ghost use Rattle.status_page.specs.Answers.{refusal_text};
 
-use crate::metrics::put_metrics;
-use crate::page::{STYLE, put_page};
-use crate::parts::{Part, put_parts};
-use crate::plain::{put_health, put_plain};
+use crate::escape::Language;
+use crate::metrics::METRICS;
+use crate::page::PAGE;
+use crate::place::{HeadValue, Place, Row};
+use crate::plain::{HEALTHY, PLAIN, SILENT};
 use crate::request::{StatusRequest, Target};
+use crate::template::Piece::{self, Text, Value};
+use crate::template::{Section, put_row, put_template};
 use crate::value::{StatusValue, is_any_silent};
 use std::alloc::AllocError;
+
+/// All templates of answers.
+#[derive(Clone, Copy)]
+pub struct Templates {
+    pub page: &'static [Section],
+    pub metrics: &'static [Section],
+    pub plain: &'static [Section],
+    pub silent: &'static [Section],
+    pub healthy: &'static [Section],
+    /// The head of each answer.
+    pub head: &'static [Piece],
+    /// The body of a refusal.
+    pub refusal: &'static [Piece],
+}
+
+/// The head of an answer. A browser stores nothing of it, takes it for what it is alone, and loads and runs nothing in
+/// the page but its own style, by its SHA-256; no other page may have it in a frame.
+const HEAD: &[Piece] = &[
+    Text(b"HTTP/1.1 "),
+    Value(Place::StatusCode),
+    Text(b"\r\nContent-Type: "),
+    Value(Place::Kind),
+    Text(b"\r\nContent-Length: "),
+    Value(Place::Length),
+    Text(
+        b"\r\nConnection: close\r\nAllow: GET, HEAD\r\nCache-Control: no-store\r\nX-Content-Type-Options: nosniff",
+    ),
+    Text(
+        b"\r\nContent-Security-Policy: default-src 'none'; style-src 'sha256-dK/ZtFgvTgZJ1+Xu9gSbHSajsPAdUw7PFyAMqKB+guQ='",
+    ),
+    Text(b"; base-uri 'none'; form-action 'none'; frame-ancestors 'none'\r\n\r\n"),
+];
+
+/// The body of a refusal: its code.
+const REFUSAL: &[Piece] = &[Value(Place::StatusCode), Text(b"\n")];
+
+/// All templates of answers.
+pub static TEMPLATES: Templates = Templates {
+    page: PAGE,
+    metrics: METRICS,
+    plain: PLAIN,
+    silent: SILENT,
+    healthy: HEALTHY,
+    head: HEAD,
+    refusal: REFUSAL,
+};
 
 /// The code of an answer, with its phrase. What a watchdog asks for is unavailable if a station is silent.
 fn code_of(target: Target, is_silent: bool) -> &'static [u8]
@@ -41,96 +90,135 @@ fn kind_of(target: Target) -> &'static [u8]
     }
 }
 
-/// The fields of an answer that follow what its body is.
-#[tactic(auto, unfolding(crate::specs::Answers::fields_text))]
-fn put_fields(text: &mut Vec<u8>, size: usize) -> Result<(), AllocError>
-    ensures { OnOk result (text.new.items ≡ text.old.items ++ fields_text size) }
+/// The stations that are silent, or that none is.
+fn put_health(
+    text: &mut Vec<u8>,
+    value: &mut Vec<u8>,
+    templates: &Templates,
+    status: &StatusValue<'_>,
+) -> Result<(), AllocError>
+    ensures { OnOk result (text.new.items ≡ text.old.items ++ health_text templates.now status.now) }
 {
-    put_parts(
+    if is_any_silent(status.stations, status.silent_after) {
+        put_template(text, value, Language::Plain, status, templates.silent)
+    } else {
+        put_template(text, value, Language::Plain, status, templates.healthy)
+    }
+}
+
+/// The body of a refusal.
+fn put_refusal(
+    text: &mut Vec<u8>,
+    value: &mut Vec<u8>,
+    templates: &Templates,
+    target: Target,
+) -> Result<(), AllocError>
+    ensures { OnOk result (text.new.items ≡ text.old.items ++ refusal_text templates.now target) }
+{
+    let head = HeadValue {
+        code: code_of(target, false),
+        kind: kind_of(target),
+        length: 0,
+    };
+    put_row(
         text,
-        &[
-            Part::Text(b"\r\nContent-Length: "),
-            Part::Number(size as u64),
-            Part::Text(b"\r\nConnection: close\r\nAllow: GET, HEAD"),
-            Part::Text(b"\r\nCache-Control: no-store\r\nX-Content-Type-Options: nosniff"),
-            Part::Text(
-                b"\r\nContent-Security-Policy: default-src 'none'; style-src 'unsafe-inline';",
-            ),
-            Part::Text(b" base-uri 'none'; form-action 'none'\r\n\r\n"),
-        ],
+        value,
+        Language::Plain,
+        &Row::Head(&head),
+        templates.refusal,
     )
 }
 
-/// The head of an answer with so many bytes behind it.
-#[tactic(auto, unfolding(crate::specs::Answers::head_text))]
-fn put_head(text: &mut Vec<u8>, code: &[u8], kind: &[u8], size: usize) -> Result<(), AllocError>
-    ensures { OnOk result (text.new.items ≡ text.old.items ++ head_text code.now kind.now size) }
-{
-    text.extend_from_slice(b"HTTP/1.1 ")?;
-    text.extend_from_slice(code)?;
-    text.extend_from_slice(b"\r\nContent-Type: ")?;
-    text.extend_from_slice(kind)?;
-    put_fields(text, size)
-}
-
-/// The stations that are silent, or that none is.
-fn put_health_body(text: &mut Vec<u8>, status: &StatusValue<'_>) -> Result<(), AllocError>
-    ensures { OnOk result (text.new.items ≡ text.old.items ++ health_body status.now) }
-{
-    if is_any_silent(status.stations, status.silent_after) {
-        put_health(text, status.stations, status.silent_after)
-    } else {
-        text.extend_from_slice(b"ok\n")
-    }
-}
-
-/// A text and the end of a line.
-fn put_line(text: &mut Vec<u8>, line: &[u8]) -> Result<(), AllocError>
-    ensures { OnOk result (text.new.items ≡ text.old.items ++ line.now ++ codes "\n") }
-{
-    text.extend_from_slice(line)?;
-    text.extend_from_slice(b"\n")
-}
-
-/// The body of an answer: of a refusal its code.
-#[tactic(auto, unfolding(crate::specs::Answers::body_text))]
+/// The body of an answer by some templates.
 fn put_body(
     text: &mut Vec<u8>,
+    value: &mut Vec<u8>,
+    templates: &Templates,
     target: Target,
-    code: &[u8],
     status: &StatusValue<'_>,
 ) -> Result<(), AllocError>
-    ensures { OnOk result (text.new.items ≡ text.old.items ++ body_text STYLE.now target code.now status.now) }
+    ensures { OnOk result (text.new.items ≡ text.old.items ++ body_text templates.now target status.now) }
 {
     match target {
-        Target::Page | Target::PageByAge => put_page(text, status),
-        Target::Metrics => put_metrics(text, status),
-        Target::Health => put_health_body(text, status),
-        Target::Plain => put_plain(text, status),
-        _ => put_line(text, code),
+        Target::Page | Target::PageByAge => {
+            put_template(text, value, Language::Html, status, templates.page)
+        }
+        Target::Metrics => put_template(text, value, Language::Metrics, status, templates.metrics),
+        Target::Health => put_health(text, value, templates, status),
+        Target::Plain => put_template(text, value, Language::Plain, status, templates.plain),
+        _ => put_refusal(text, value, templates, target),
     }
 }
 
-/// An answer takes the place of a text. Another text is used for its body. Only memory can lack, and none is taken once
-/// both texts have had room for an answer as long.
-#[tactic(auto, unfolding(crate::specs::Answers::answer_text))]
-pub fn write_answer(
-    text: &mut Vec<u8>,
+/// The body of an answer takes the place of a text. Another text is used for single values. Only memory can lack, and
+/// none is taken once both texts have had room for an answer as long.
+pub fn write_body(
     body: &mut Vec<u8>,
-    request: StatusRequest,
+    value: &mut Vec<u8>,
+    templates: &Templates,
+    target: Target,
     status: &StatusValue<'_>,
 ) -> Result<(), AllocError>
-    ensures { OnOk result (text.new.items ≡ answer_text STYLE.now request status.now) }
+    ensures { OnOk result (body.new.items ≡ body_text templates.now target status.now) }
 {
-    let target = request.target;
-    let is_silent = is_any_silent(status.stations, status.silent_after);
-    let code = code_of(target, is_silent);
     body.clear();
-    put_body(body, target, code, status)?;
+    put_body(body, value, templates, target, status)
+}
+
+/// The body of a refusal takes the place of a text. Only memory can lack.
+pub fn write_refusal(
+    body: &mut Vec<u8>,
+    value: &mut Vec<u8>,
+    templates: &Templates,
+    target: Target,
+) -> Result<(), AllocError>
+    ensures { OnOk result (body.new.items ≡ refusal_text templates.now target) }
+{
+    body.clear();
+    put_refusal(body, value, templates, target)
+}
+
+/// The head of an answer with so many bytes after it, by some templates.
+fn put_head(
+    text: &mut Vec<u8>,
+    value: &mut Vec<u8>,
+    templates: &Templates,
+    head: &HeadValue<'_>,
+) -> Result<(), AllocError>
+    ensures { OnOk result (text.new.items ≡ text.old.items
+        ++ head_of templates.now head.now.code.now head.now.kind.now head.now.length) }
+{
+    put_row(
+        text,
+        value,
+        Language::Plain,
+        &Row::Head(head),
+        templates.head,
+    )
+}
+
+/// An answer with a body takes the place of a text: whether a station is silent decides the code of some. Another text
+/// is used for single values. Only memory can lack, and none is taken once both texts have had room for an answer as
+/// long.
+pub fn write_answer(
+    text: &mut Vec<u8>,
+    value: &mut Vec<u8>,
+    templates: &Templates,
+    request: StatusRequest,
+    is_silent: bool,
+    body: &[u8],
+) -> Result<(), AllocError>
+    ensures { OnOk result (text.new.items ≡ answer_text templates.now request is_silent body.now) }
+{
+    let head = HeadValue {
+        code: code_of(request.target, is_silent),
+        kind: kind_of(request.target),
+        length: body.len() as u64,
+    };
     text.clear();
-    put_head(text, code, kind_of(target), body.len())?;
+    put_head(text, value, templates, &head)?;
     if request.is_head {
         return Ok(());
     }
-    text.extend_from_slice(body.as_slice())
+    text.extend_from_slice(body)
 }

@@ -95,27 +95,28 @@ fn refusal(target: Target) -> StatusRequest {
 
 /// What is asked by a head whose parts are there.
 #[tactic(auto, unfolding(crate::specs::Requests::asked_by), using(crate::proofs::HostLemmas::same_foreign))]
-fn asked_by(bytes: &[u8], fields: &[HeaderSpan], head: RequestSpans) -> StatusRequest
+fn asked_by(bytes: &[u8], fields: &[HeaderSpan], head: RequestSpans, name: &[u8]) -> StatusRequest
     requires { IsRequestWithin bytes.now fields.now head }
-    ensures { (h : RequestHead) → IsRequestAt bytes.now fields.now head h → result ≡ asked_by h }
+    ensures { (h : RequestHead) → IsRequestAt bytes.now fields.now head h →
+        result ≡ asked_by name.now h }
 {
     let mut request = request_of(head.method.of(bytes), head.path.of(bytes));
-    if is_any_foreign(bytes, &fields[..head.headers]) {
+    if is_any_foreign(bytes, &fields[..head.headers], name) {
         request.target = Target::Misdirected;
     }
     request
 }
 
-/// What the bytes that came ask, if they hold the head of a request with at most 64 fields. Else what is wrong with
+/// What the bytes that came ask of a server of a name, if they hold the head of a request with at most 64 fields. Else what is wrong with
 /// them; None if more bytes may complete a head and more are taken.
-pub fn request_in(bytes: &[u8], is_full: bool) -> Option<StatusRequest>
+pub fn request_in(bytes: &[u8], is_full: bool, name: &[u8]) -> Option<StatusRequest>
     ensures asked { (head : RequestHead) (rest : List ℕ) → ReadsRequest bytes.now head rest →
-        length head.fields ≤ MAX_FIELDS → result ≡ Some (asked_by head) }
+        length head.fields ≤ MAX_FIELDS → result ≡ Some (asked_by name.now head) }
     ensures unfinished { result ≡ None → HasNoRequest bytes.now }
 {
     let mut fields = [EMPTY_HEADER_SPAN; FIELDS];
     match parse_request(bytes, &mut fields) {
-        Ok(Status::Complete(head)) => Some(asked_by(bytes, &fields, head)),
+        Ok(Status::Complete(head)) => Some(asked_by(bytes, &fields, head, name)),
         Ok(Status::Partial) => {
             if is_full {
                 Some(refusal(Target::TooLong))

@@ -1,2 +1,4 @@
 pub mod Exchanges
-pub mod Visits
+pub mod KeptValues
+pub mod KeptTexts
+pub mod Doors

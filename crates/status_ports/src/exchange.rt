@@ -1,8 +1,9 @@
 //! One request and its answer, without a socket.
 ghost use Rattle.std.specs.Prelude.{◌≡◌, ◌≤◌, [], IfOk, OnOk, drop, length};
+ghost use Rattle.status_page.specs.Answers.{answer_text};
 ghost use Rattle.status_ports.specs.Exchanges.{begun, is_late, with_bytes};
 
-use status_page::{StatusRequest, StatusValue, request_in, write_answer};
+use status_page::{StatusRequest, Templates, request_in, write_answer};
 use std::alloc::{AllocError, Global};
 use std::marker::Model;
 
@@ -24,6 +25,7 @@ pub struct Exchange {
 
 impl Model for Exchange {
     ghost use Rattle.std.specs.Prelude.{◌≤◌, drop, length};
+    ghost use Rattle.status_page.specs.Answers.{answer_text};
     ghost use Rattle.status_ports.specs.Exchanges.{ExchangeValue};
 
     ghost Value = { ExchangeValue };
@@ -67,20 +69,34 @@ impl Exchange {
         self.head.extend_from_slice(&bytes[..count])
     }
 
-    /// What is asked, if that is known: more bytes are waited for while a head may have more.
-    pub fn asked(&self) -> Option<StatusRequest> {
-        request_in(self.head.as_slice(), self.head.len() >= HEAD)
+    /// What is asked of a server of a name, if that is known: more bytes are waited for while a head may have more.
+    pub fn asked(&self, name: &[u8]) -> Option<StatusRequest> {
+        request_in(self.head.as_slice(), self.head.len() >= HEAD, name)
     }
 
-    /// The answer is to be sent. It is written with another text, which is used for its body. Only memory can lack.
+    /// The answer is to be sent: a body, before which stands its head. Another text is used for single values. Only
+    /// memory can lack.
     pub fn answer(
         &mut self,
-        body: &mut Vec<u8>,
+        value: &mut Vec<u8>,
+        templates: &Templates,
         request: StatusRequest,
-        status: &StatusValue<'_>,
-    ) -> Result<(), AllocError> {
+        is_silent: bool,
+        body: &[u8],
+    ) -> Result<(), AllocError>
+        ensures { OnOk result (self.new ≡ record self.old {
+          rest = answer_text templates.now request is_silent body.now;
+        }) }
+    {
         self.sent = 0;
-        write_answer(&mut self.answer, body, request, status)
+        write_answer(&mut self.answer, value, templates, request, is_silent, body)
+    }
+
+    /// When it began.
+    pub fn since(&self) -> u64
+        ensures { result ≡ self.now.since }
+    {
+        self.since
     }
 
     /// What is still to be sent.

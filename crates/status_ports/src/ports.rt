@@ -1,165 +1,55 @@
 //! The status port over sockets.
-use crate::exchange::{Exchange, HEAD};
-use crate::visit::may_ask;
-use access_list::AccessList;
-use mio::net::{TcpListener, TcpStream};
-use status_page::{StatusRequest, StatusValue};
-use std::alloc::{AllocError, Global};
-use std::io::{self, ErrorKind, Read, Write};
-use std::net::{Shutdown, SocketAddr, SocketAddrV4};
+ghost use Rattle.std.specs.Prelude.{◌≡◌, [], All, IfOk};
+ghost use Rattle.status_ports.specs.Doors.{AskersValue, IsHeldFor};
 
-/// How many connections there are at a time.
+use crate::door::{Arrival, Askers, Door};
+use crate::kept::KeptTexts;
+use crate::places::{Scratch, give_up_all, place_for, seat, serve_all, step_all};
+use crate::slot::Slot;
+use access_list::AccessList;
+use status_page::{StatusRequest, StatusValue, TEMPLATES};
+use std::alloc::{AllocError, Global};
+use std::io;
+use std::marker::Model;
+use std::net::SocketAddrV4;
+
+/// How many connections there are at a time, and how many are taken at one look.
 const CONNECTIONS: usize = 8;
 
-/// How many connections are taken at one look, with those that are closed at once.
+/// How many are looked at in one look, with those that are closed at once.
 const AT_ONCE: usize = 64;
 
-/// How many bytes a read asks for.
-const READ: usize = 1_024;
-
-/// A request that waits for its answer, and at which of the connections.
+/// A request for which a text is to be made.
 #[derive(Clone, Copy, Drop)]
 pub struct Asked {
-    pub place: usize,
     pub request: StatusRequest,
 }
 
-/// What a connection is in the middle of.
-#[derive(Clone, Copy, Drop)]
-enum Stage {
-    /// Its request comes.
-    Reading,
-    /// Its answer goes.
-    Sending,
-    /// All was sent; what it still sends is dropped until it closes.
-    Ending,
-}
-
-/// A connection, if one is here, and its buffers, which the next one gets.
-#[derive(Drop)]
-struct Slot {
-    stream: Option<TcpStream>,
-    stage: Stage,
-    exchange: Exchange,
-}
-
-/// What a read or a write came to.
-#[derive(Clone, Copy, Drop)]
-enum Step {
-    Bytes(usize),
-    Later,
-    Over,
-}
-
-/// What an answer of the system is.
-fn step_of(answer: io::Result<usize>) -> Step {
-    match answer {
-        Ok(0) => Step::Over,
-        Ok(count) => Step::Bytes(count),
-        Err(error) => match error.kind() {
-            ErrorKind::WouldBlock | ErrorKind::Interrupted => Step::Later,
-            _ => Step::Over,
-        },
-    }
-}
-
-/// Sends what is still to be sent, as much as is taken at once. Whether the connection stays.
-fn send(stream: &TcpStream, stage: &mut Stage, exchange: &mut Exchange) -> bool {
-    let mut to = stream;
-    let count = match to.write(exchange.rest()) {
-        Ok(count) => count.min(exchange.rest().len()),
-        Err(error) => {
-            return matches!(error.kind(), ErrorKind::WouldBlock | ErrorKind::Interrupted);
-        }
-    };
-    exchange.sent(count);
-    if exchange.rest().is_empty() {
-        *stage = Stage::Ending;
-        return stream.shutdown(Shutdown::Write).is_ok();
-    }
-    true
-}
-
-/// Reads what came of the request, once. Whether the connection stays.
-fn receive(stream: &TcpStream, exchange: &mut Exchange) -> bool {
-    let mut buffer = [0u8; READ];
-    let mut from = stream;
-    match step_of(from.read(&mut buffer)) {
-        Step::Bytes(count) => exchange.add(&buffer[..count.min(READ)]).is_ok(),
-        Step::Later => true,
-        Step::Over => false,
-    }
-}
-
-/// Drops what still comes, a read of it. Whether the connection stays.
-fn drain(stream: &TcpStream) -> bool {
-    let mut buffer = [0u8; READ];
-    let mut from = stream;
-    !matches!(step_of(from.read(&mut buffer)), Step::Over)
-}
-
-impl Slot {
-    fn new(alloc: Global) -> Result<Slot, AllocError> {
-        Ok(Slot {
-            stream: None,
-            stage: Stage::Reading,
-            exchange: Exchange::new(alloc)?,
-        })
-    }
-
-    /// A connection comes.
-    fn begin(&mut self, stream: TcpStream, now: u64) {
-        self.stream = Some(stream);
-        self.stage = Stage::Reading;
-        self.exchange.begin(now);
-    }
-
-    /// Whether the connection stays after one more step.
-    fn goes_on(&mut self, now: u64) -> bool {
-        let Some(stream) = &self.stream else {
-            return false;
-        };
-        if self.exchange.is_late(now) {
-            return false;
-        }
-        match self.stage {
-            Stage::Reading => receive(stream, &mut self.exchange),
-            Stage::Sending => send(stream, &mut self.stage, &mut self.exchange),
-            Stage::Ending => drain(stream),
-        }
-    }
-
-    /// One step.
-    fn step(&mut self, now: u64) {
-        if !self.goes_on(now) {
-            self.stream = None;
-        }
-    }
-
-    /// What it asks, if that is known and not answered.
-    fn asked(&self) -> Option<StatusRequest> {
-        match (&self.stream, self.stage) {
-            (Some(_), Stage::Reading) => self.exchange.asked(),
-            _ => None,
-        }
-    }
-}
-
-/// Connections to the status port.
+/// Connections to the status port. In a contract it is who may ask: each connection that is held came from an address
+/// of those who may.
 #[derive(Drop)]
 pub struct StatusPorts {
-    listener: TcpListener,
-    /// From where it may be asked.
-    list: Option<AccessList>,
+    door: Door,
     slots: Vec<Slot>,
-    /// A text for the body of an answer.
-    body: Vec<u8>,
-    /// At which connection it is looked first for a request.
-    first: usize,
+    kept: KeptTexts,
+    scratch: Scratch,
+}
+
+impl Model for StatusPorts {
+    ghost use Rattle.std.specs.Prelude.{All};
+    ghost use Rattle.status_ports.specs.Doors.{AskersValue, IsHeldFor};
+
+    ghost Value = { AskersValue };
+
+    ghost view = { λ p. p.door };
+
+    ghost invariant = { λ p. All (IsHeldFor p.door) p.slots.items };
 }
 
 /// Places for as many connections as there may be.
-fn slots_for(alloc: Global) -> Result<Vec<Slot>, AllocError> {
+fn slots_for(alloc: Global) -> Result<Vec<Slot>, AllocError>
+    ensures { IfOk result (λ slots. (a : AskersValue) → All (IsHeldFor a) slots.items) }
+{
     let mut slots = Vec::new(alloc);
     for _ in 0..CONNECTIONS {
         slots.push(Slot::new(alloc)?)?;
@@ -167,9 +57,12 @@ fn slots_for(alloc: Global) -> Result<Vec<Slot>, AllocError> {
     Ok(slots)
 }
 
-/// A place where no connection is.
-fn free_place(slots: &[Slot]) -> Option<usize> {
-    slots.iter().position(|slot| slot.stream.is_none())
+/// Who came.
+#[derive(Clone, Copy, Drop)]
+enum Taken {
+    Nobody,
+    Refused,
+    Seated,
 }
 
 impl StatusPorts {
@@ -180,82 +73,124 @@ impl StatusPorts {
         alloc: Global,
         address: SocketAddrV4,
         list: Option<AccessList>,
-    ) -> io::Result<StatusPorts> {
+    ) -> io::Result<StatusPorts>
+        ensures { IfOk result (λ ports. ports ≡ record { list = list; name = [] }) }
+    {
         let slots = slots_for(alloc)?;
-        let listener = TcpListener::bind(rt, SocketAddr::V4(address))?;
-        Ok(StatusPorts {
-            listener,
+        let askers = Askers {
             list,
+            name: Vec::new(alloc),
+        };
+        let door = Door::open(rt, address, askers)?;
+        Ok(StatusPorts {
+            door,
             slots,
-            body: Vec::new(alloc),
-            first: 0,
+            kept: KeptTexts::new(alloc),
+            scratch: Scratch {
+                refusal: Vec::new(alloc),
+                value: Vec::new(alloc),
+            },
         })
+    }
+
+    /// By that name it may be asked too, besides addresses and `localhost`.
+    pub fn take_name(&mut self, name: Vec<u8>)
+        ensures { self.new ≡ record self.old { name = name.items } }
+    {
+        self.door.take_name(name);
     }
 
     /// The port that is listened on.
     pub fn port(&self) -> io::Result<u16> {
-        Ok(self.listener.local_addr()?.port())
+        self.door.port()
     }
 
-    /// Takes a connection if one waits, and tells whether one did. One that may not ask is closed with no byte, and so
-    /// is one for which there is no room: else those that gave up would stand before all who come later.
-    fn accept(&mut self, now: u64) -> bool {
-        let Ok((stream, from)) = self.listener.accept() else {
-            return false;
+    /// Takes a connection if one waits and there is a place for it. One that may not ask is closed with no byte.
+    fn take(&mut self, now: u64) -> Taken
+        ensures { self.new ≡ self.old }
+    {
+        let Some(place) = place_for(self.slots.as_slice()) else {
+            return Taken::Nobody;
         };
-        if let (SocketAddr::V4(from), Some(place)) = (from, free_place(self.slots.as_slice())) {
-            if may_ask(&self.list, *from.ip()) && place < self.slots.len() {
-                self.slots[place].begin(stream, now);
+        match self.door.next() {
+            Arrival::Nobody => Taken::Nobody,
+            Arrival::Refused => Taken::Refused,
+            Arrival::Welcome(visitor) => {
+                seat(
+                    self.slots.as_mut_slice(),
+                    place,
+                    visitor,
+                    now,
+                    self.door.name(),
+                );
+                Taken::Seated
             }
         }
-        true
     }
 
-    /// Takes the connections that wait, so many at most.
-    fn accept_waiting(&mut self, now: u64) {
+    /// Takes the connections that wait, as many at most as there are places.
+    fn take_waiting(&mut self, now: u64)
+        ensures { self.new ≡ self.old }
+    {
+        let mut seated = 0usize;
         for _ in 0..AT_ONCE {
-            if !self.accept(now) {
+            match self.take(now) {
+                Taken::Nobody => return,
+                Taken::Refused => {}
+                Taken::Seated => seated = seated.saturating_add(1),
+            }
+            if seated >= CONNECTIONS {
                 return;
             }
         }
     }
 
-    /// Looks once at each connection, and takes those that wait. Answers a request that is to be answered, if
-    /// there is one. It never waits.
-    pub fn look(&mut self, now: u64) -> Option<Asked> {
-        self.accept_waiting(now);
-        for slot in self.slots.iter_mut() {
-            slot.step(now);
-        }
-        self.next_asked()
+    /// Looks once at each connection, and takes those that wait. Each request whose text was made less than a second
+    /// ago is answered. Else one for which a text is to be made, if there is one. It never waits.
+    pub fn look(&mut self, now: u64) -> Option<Asked>
+        ensures { self.new ≡ self.old }
+    {
+        step_all(self.slots.as_mut_slice(), now, self.door.name());
+        self.take_waiting(now);
+        self.serve(now)
     }
 
-    /// The next request that is to be answered: the connections take turns.
-    fn next_asked(&mut self) -> Option<Asked> {
-        for turn in 0..CONNECTIONS {
-            let place = (self.first % CONNECTIONS + turn) % CONNECTIONS;
-            if place < self.slots.len() {
-                if let Some(request) = self.slots[place].asked() {
-                    self.first = place + 1;
-                    return Some(Asked { place, request });
-                }
-            }
+    /// Answers each request whose text is kept. Else one for which a text is to be made, if there is one.
+    fn serve(&mut self, now: u64) -> Option<Asked>
+        ensures { self.new ≡ self.old }
+    {
+        let missing = serve_all(
+            self.slots.as_mut_slice(),
+            &self.kept,
+            &mut self.scratch,
+            now,
+            self.door.name(),
+        );
+        match missing {
+            Some(request) => Some(Asked { request }),
+            None => None,
         }
-        None
     }
 
-    /// Answers a request by what is told of the server, and sends as much as is taken at once.
-    pub fn answer(&mut self, asked: Asked, status: &StatusValue<'_>, now: u64) {
-        if asked.place >= self.slots.len() {
-            return;
-        }
-        let slot = &mut self.slots[asked.place];
-        match slot.exchange.answer(&mut self.body, asked.request, status) {
+    /// Makes the text for a request by what is told of the server, and answers all who asked for it. Without memory for
+    /// it they are closed.
+    pub fn answer(&mut self, asked: Asked, status: &StatusValue<'_>, now: u64)
+        ensures { self.new ≡ self.old }
+    {
+        let value = &mut self.scratch.value;
+        let target = asked.request.target;
+        match self.kept.make(value, &TEMPLATES, target, status, now) {
             Ok(()) => {
-                slot.stage = Stage::Sending;
-                slot.step(now);
+                let _missing = self.serve(now);
             }
-            Err(_) => slot.stream = None,
+            Err(_) => give_up_all(self.slots.as_mut_slice()),
         }
+    }
+
+    /// What was told so far is told no more: each text is made again for whoever asks next.
+    pub fn forget(&mut self)
+        ensures { self.new ≡ self.old }
+    {
+        self.kept.forget();
     }
 }

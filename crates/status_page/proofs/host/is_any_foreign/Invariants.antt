@@ -4,4 +4,4 @@ use Rattle.status_page.proofs.host.is_any_foreign.Given as goal
 
 abbrev pub invariant-loop-field : goal.invariant-loop-field
 invariant-loop-field l =
-    foreign_in l.bytes l.fields ≡ foreign_in l.bytes (drop l.field-index l.fields)
+    foreign_in l.name l.bytes l.fields ≡ foreign_in l.name l.bytes (drop l.field-index l.fields)

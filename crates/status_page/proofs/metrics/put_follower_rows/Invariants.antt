@@ -1,6 +1,0 @@
-use Rattle.std.proofs.Common.{◌≡◌, ◌++◌, take, flat_map}
-use Rattle.status_page.specs.Metrics.{follower_line}
-use Rattle.status_page.proofs.metrics.put_follower_rows.Given as goal
-
-abbrev pub invariant-loop-station : goal.invariant-loop-station
-invariant-loop-station l = l.text.items ≡ l.fn.text.items ++ flat_map follower_line (take l.station-index l.stations)

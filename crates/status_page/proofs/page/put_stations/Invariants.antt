@@ -1,7 +1,0 @@
-use Rattle.std.proofs.Common.{◌≡◌, ◌++◌, take, flat_map}
-use Rattle.status_page.specs.Pages.{station_row}
-use Rattle.status_page.proofs.page.put_stations.Given as goal
-
-abbrev pub invariant-loop-station : goal.invariant-loop-station
-invariant-loop-station l = l.text.items ≡ l.fn.text.items
-    ++ flat_map (station_row l.silent_after) (take l.station-index l.stations)

@@ -1,0 +1,279 @@
+//! Templates: texts with places for values. The template's own text stands as it is, and each value is escaped.
+ghost use Rattle.std.specs.Prelude.{◌≡◌, ◌++◌, OnOk};
+ghost use Rattle.status_page.specs.Places.{value_text};
+ghost use Rattle.status_page.specs.Templates.{bucket_row, bucket_rows, client_row, client_rows, count_row};
+ghost use Rattle.status_page.specs.Templates.{count_rows, filled, is_chosen, piece_text};
+ghost use Rattle.status_page.specs.Templates.{row_text, section_text, station_row, station_rows};
+
+use crate::escape::{Language, put_escaped};
+use crate::place::{Place, Row, put_value};
+use crate::value::{ClientStatus, NamedCount, StationStatus, StatusValue, TurnBucket};
+use std::alloc::AllocError;
+
+/// A piece of a template.
+#[derive(Clone, Copy)]
+pub enum Piece {
+    /// A text of the template, as it stands.
+    Text(&'static [u8]),
+    /// A value, escaped.
+    Value(Place),
+}
+
+/// Which stations have a row.
+#[derive(Clone, Copy)]
+pub enum Chosen {
+    All,
+    /// Those that are silent.
+    Silent,
+    /// Those of which a record is held.
+    Holding,
+}
+
+/// The row of a station, and which stations have one.
+#[derive(Clone, Copy)]
+pub struct StationRows {
+    pub chosen: Chosen,
+    pub pieces: &'static [Piece],
+}
+
+/// A section of a template: once for the server, or a row for each of a list.
+#[derive(Clone, Copy)]
+pub enum Section {
+    Once(&'static [Piece]),
+    Stations(StationRows),
+    Clients(&'static [Piece]),
+    /// For each reason for which records were refused.
+    Refusals(&'static [Piece]),
+    /// For each reason for which connections were turned away.
+    Away(&'static [Piece]),
+    /// For each bound of turns.
+    Buckets(&'static [Piece]),
+}
+
+/// A piece of a row. The value is written into a buffer of its own first.
+fn put_piece(
+    text: &mut Vec<u8>,
+    value: &mut Vec<u8>,
+    language: Language,
+    row: &Row<'_>,
+    piece: &Piece,
+) -> Result<(), AllocError>
+    ensures { OnOk result (text.new.items ≡ text.old.items ++ piece_text language (value_text row.now) piece.now) }
+{
+    match piece {
+        Piece::Text(bytes) => text.extend_from_slice(bytes),
+        Piece::Value(place) => {
+            value.clear();
+            put_value(value, row, *place)?;
+            put_escaped(text, language, value.as_slice())
+        }
+    }
+}
+
+/// A row. Only memory can lack, and then some of its pieces were put.
+pub fn put_row(
+    text: &mut Vec<u8>,
+    value: &mut Vec<u8>,
+    language: Language,
+    row: &Row<'_>,
+    pieces: &[Piece],
+) -> Result<(), AllocError>
+    ensures { OnOk result (text.new.items ≡ text.old.items ++ row_text language pieces.now (value_text row.now)) }
+{
+    for piece in pieces {
+        put_piece(text, value, language, row, piece)?;
+    }
+    Ok(())
+}
+
+/// Whether a station has a row.
+fn is_chosen(chosen: Chosen, station: &StationStatus<'_>, silent_after: u64) -> bool
+    ensures { result ≡ is_chosen chosen silent_after station.now }
+{
+    match chosen {
+        Chosen::All => true,
+        Chosen::Silent => station.is_silent(silent_after),
+        Chosen::Holding => station.last.is_some(),
+    }
+}
+
+/// The row of a station, if it has one.
+fn put_station(
+    text: &mut Vec<u8>,
+    value: &mut Vec<u8>,
+    language: Language,
+    rows: &StationRows,
+    station: &StationStatus<'_>,
+    silent_after: u64,
+) -> Result<(), AllocError>
+    ensures { OnOk result
+        (text.new.items ≡ text.old.items ++ station_row language rows.now silent_after station.now) }
+{
+    if is_chosen(rows.chosen, station, silent_after) {
+        put_row(
+            text,
+            value,
+            language,
+            &Row::Station(station, silent_after),
+            rows.pieces,
+        )
+    } else {
+        Ok(())
+    }
+}
+
+/// The rows of stations.
+fn put_stations(
+    text: &mut Vec<u8>,
+    value: &mut Vec<u8>,
+    language: Language,
+    rows: &StationRows,
+    stations: &[StationStatus<'_>],
+    silent_after: u64,
+) -> Result<(), AllocError>
+    ensures { OnOk result
+        (text.new.items ≡ text.old.items ++ station_rows language rows.now silent_after stations.now) }
+{
+    for station in stations {
+        put_station(text, value, language, rows, station, silent_after)?;
+    }
+    Ok(())
+}
+
+/// The row of a client.
+#[tactic(auto, unfolding(crate::specs::Templates::client_row))]
+fn put_client(
+    text: &mut Vec<u8>,
+    value: &mut Vec<u8>,
+    language: Language,
+    pieces: &[Piece],
+    client: &ClientStatus,
+) -> Result<(), AllocError>
+    ensures { OnOk result (text.new.items ≡ text.old.items ++ client_row language pieces.now client.now) }
+{
+    put_row(text, value, language, &Row::Client(client), pieces)
+}
+
+/// The rows of clients.
+fn put_clients(
+    text: &mut Vec<u8>,
+    value: &mut Vec<u8>,
+    language: Language,
+    pieces: &[Piece],
+    clients: &[ClientStatus],
+) -> Result<(), AllocError>
+    ensures { OnOk result (text.new.items ≡ text.old.items ++ client_rows language pieces.now clients.now) }
+{
+    for client in clients {
+        put_client(text, value, language, pieces, client)?;
+    }
+    Ok(())
+}
+
+/// The row of a count.
+#[tactic(auto, unfolding(crate::specs::Templates::count_row))]
+fn put_count(
+    text: &mut Vec<u8>,
+    value: &mut Vec<u8>,
+    language: Language,
+    pieces: &[Piece],
+    one: &NamedCount<'_>,
+) -> Result<(), AllocError>
+    ensures { OnOk result (text.new.items ≡ text.old.items ++ count_row language pieces.now one.now) }
+{
+    put_row(text, value, language, &Row::Count(one), pieces)
+}
+
+/// The rows of counts.
+fn put_counts(
+    text: &mut Vec<u8>,
+    value: &mut Vec<u8>,
+    language: Language,
+    pieces: &[Piece],
+    counts: &[NamedCount<'_>],
+) -> Result<(), AllocError>
+    ensures { OnOk result (text.new.items ≡ text.old.items ++ count_rows language pieces.now counts.now) }
+{
+    for one in counts {
+        put_count(text, value, language, pieces, one)?;
+    }
+    Ok(())
+}
+
+/// The row of a count of turns.
+#[tactic(auto, unfolding(crate::specs::Templates::bucket_row))]
+fn put_bucket(
+    text: &mut Vec<u8>,
+    value: &mut Vec<u8>,
+    language: Language,
+    pieces: &[Piece],
+    bucket: &TurnBucket<'_>,
+) -> Result<(), AllocError>
+    ensures { OnOk result (text.new.items ≡ text.old.items ++ bucket_row language pieces.now bucket.now) }
+{
+    put_row(text, value, language, &Row::Bucket(bucket), pieces)
+}
+
+/// The rows of counts of turns.
+fn put_buckets(
+    text: &mut Vec<u8>,
+    value: &mut Vec<u8>,
+    language: Language,
+    pieces: &[Piece],
+    buckets: &[TurnBucket<'_>],
+) -> Result<(), AllocError>
+    ensures { OnOk result (text.new.items ≡ text.old.items ++ bucket_rows language pieces.now buckets.now) }
+{
+    for bucket in buckets {
+        put_bucket(text, value, language, pieces, bucket)?;
+    }
+    Ok(())
+}
+
+/// A section.
+fn put_section(
+    text: &mut Vec<u8>,
+    value: &mut Vec<u8>,
+    language: Language,
+    status: &StatusValue<'_>,
+    section: &Section,
+) -> Result<(), AllocError>
+    ensures { OnOk result (text.new.items ≡ text.old.items ++ section_text language status.now section.now) }
+{
+    match section {
+        Section::Once(pieces) => put_row(text, value, language, &Row::Server(status), pieces),
+        Section::Stations(rows) => {
+            put_stations(
+                text,
+                value,
+                language,
+                rows,
+                status.stations,
+                status.silent_after,
+            )
+        }
+        Section::Clients(pieces) => put_clients(text, value, language, pieces, status.clients),
+        Section::Refusals(pieces) => put_counts(text, value, language, pieces, status.refusals),
+        Section::Away(pieces) => put_counts(text, value, language, pieces, status.away),
+        Section::Buckets(pieces) => {
+            put_buckets(text, value, language, pieces, status.turns.buckets)
+        }
+    }
+}
+
+/// A template, filled by what is told of a server: its own text as it stands, and each value escaped. A single value is
+/// written into a buffer of its own first. Only memory can lack, and then some of it was put.
+pub fn put_template(
+    text: &mut Vec<u8>,
+    value: &mut Vec<u8>,
+    language: Language,
+    status: &StatusValue<'_>,
+    template: &[Section],
+) -> Result<(), AllocError>
+    ensures { OnOk result (text.new.items ≡ text.old.items ++ filled language status.now template.now) }
+{
+    for section in template {
+        put_section(text, value, language, status, section)?;
+    }
+    Ok(())
+}
