@@ -1,2 +1,4 @@
+mod ArrivalLemmas
+mod MinuteLemmas
 mod BehindLemmas
 mod VisitorLemmas

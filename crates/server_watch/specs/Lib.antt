@@ -1,3 +1,4 @@
+pub mod Minutes
 pub mod Turns
 pub mod Visitors
 pub mod Watching

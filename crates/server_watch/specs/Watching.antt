@@ -8,12 +8,31 @@ use Rattle.station_ring.specs.HeldRecords.{RingsValue}
 use Rattle.station_ring.specs.Rings.{RingValue}
 use Rattle.status_page.specs.declared.value.ClientStatus.{ClientStatus}
 use Rattle.status_page.specs.declared.value.StationStatus.{StationStatus}
+use Rattle.server_watch.specs.Minutes.{counted, reached}
 use Rattle.server_watch.specs.declared.arrivals.Arrivals.{Arrivals}
 use Rattle.server_watch.specs.declared.visitors.PresentClient.{PresentClient}
 
 -- what is known of a station's records once so many have come, at a time in milliseconds
 abbrev pub noted : (pushes now : ℕ) → Arrivals → Arrivals
-noted pushes now a = record { seen = pushes; last = if nat_lt a.seen pushes then now else a.last }
+noted pushes now a =
+    if nat_lt a.seen pushes
+    then record { seen = pushes; last = now; minutes = counted (now / 60000) (pushes - a.seen) a.minutes }
+    else record a { seen = pushes }
+
+-- the same by a ring, if there is one
+abbrev pub noted_of : Option RingValue → (now : ℕ) → Arrivals → Arrivals
+noted_of None now a = a
+noted_of (Some r) now a = noted r.pushes now a
+
+-- the same of all stations, by their rings
+abbrev pub all_noted : (now : ℕ) → List Arrivals → List RingValue → List Arrivals
+all_noted now [] rs = []
+all_noted now (a ∷ others) [] = a ∷ others
+all_noted now (a ∷ others) (r ∷ rs) = noted r.pushes now a ∷ all_noted now others rs
+
+-- what is known of a station's records at a minute
+abbrev pub reaching : (minute : ℕ) → Arrivals → Arrivals
+reaching minute a = record a { minutes = reached minute a.minutes }
 
 -- how many seconds ago the last one came
 abbrev pub age_of : (now : ℕ) → Arrivals → ℕ

@@ -1,91 +1,58 @@
-//! How many records came in each of the last 60 minutes.
-use std::alloc::{AllocError, Global};
+//! How many records of a station came in each of the last 60 minutes.
+ghost use Rattle.std.specs.Prelude.{◌≡◌, ◌≤◌, length};
+ghost use Rattle.server_watch.specs.Minutes.{counted, no_minutes, reached, shifted};
 
 /// How many minutes are kept.
 pub const MINUTES: usize = 60;
 
-/// The counts of all stations, by the minute.
-#[derive(Drop)]
-pub struct Minutes {
-    /// Of each station 60 counts, that of a minute at its remainder.
-    counts: Vec<u32>,
-    /// The same, the oldest minute first.
-    ordered: Vec<u32>,
-    /// The present minute.
-    minute: u64,
+/// The counts of a station, the oldest minute first.
+#[derive(Clone, Copy, Drop)]
+pub struct MinuteCounts {
+    pub counts: [u32; 60],
+    /// The minute of the last count, since the server began.
+    pub minute: u64,
 }
 
-/// So many zeros.
-fn zeros(alloc: Global, count: usize) -> Result<Vec<u32>, AllocError> {
-    let mut zeros = Vec::with_capacity(alloc, count)?;
-    zeros.resize(count, 0)?;
-    Ok(zeros)
+/// So many counts are over: those after them come forward, and none came since.
+fn shift(counts: &mut [u32], by: usize)
+    requires { by ≤ length counts.old }
+    ensures { counts.new ≡ shifted by counts.old }
+{
+    for at in 0..counts.len() {
+        counts[at] = match counts.get(at.saturating_add(by)) {
+            Some(count) => *count,
+            None => 0,
+        };
+    }
 }
 
-impl Minutes {
-    /// Nothing came, to so many stations.
-    pub fn new(alloc: Global, stations: usize) -> Result<Minutes, AllocError> {
-        let count = stations.min(1 << 20) * MINUTES;
-        Ok(Minutes {
-            counts: zeros(alloc, count)?,
-            ordered: zeros(alloc, count)?,
+impl MinuteCounts {
+    /// None came in any.
+    pub fn new() -> MinuteCounts
+        ensures { result ≡ no_minutes }
+    {
+        MinuteCounts {
+            counts: [0; 60],
             minute: 0,
-        })
-    }
-
-    /// A minute begins: what is kept at its remainder is an hour old.
-    fn begin(&mut self, minute: u64) {
-        self.minute = minute;
-        let column = (minute % 60) as usize;
-        for row in self.counts.chunks_exact_mut(MINUTES) {
-            if let Some(count) = row.get_mut(column) {
-                *count = 0;
-            }
         }
     }
 
-    /// It is that minute, of those since the begin.
-    pub fn advance(&mut self, minute: u64) {
-        let first = minute.saturating_sub(60).max(self.minute);
-        let passed = minute.saturating_sub(first);
-        for step in 0..passed.min(60) {
-            self.begin(first.saturating_add(step + 1));
-        }
+    /// It is that minute now, or a later one that was reached before.
+    pub fn reach(&mut self, minute: u64)
+        ensures { self.new ≡ reached minute self.old }
+    {
+        let passed = minute.saturating_sub(self.minute);
+        let by = passed.min(60) as usize;
+        shift(&mut self.counts, by);
+        self.minute = self.minute.max(minute);
     }
 
-    /// So many records of the station at a place came in this minute.
-    pub fn add(&mut self, place: usize, came: u64) {
-        if place >= 1 << 20 {
-            return;
-        }
-        let at = place * MINUTES + (self.minute % 60) as usize;
-        if let Some(count) = self.counts.get_mut(at) {
-            let came = u32::try_from(came).unwrap_or(u32::MAX);
-            *count = count.saturating_add(came);
-        }
-    }
-
-    /// Puts all counts in order, the oldest first.
-    pub fn order(&mut self) {
-        let oldest = ((self.minute % 60 + 1) % 60) as usize;
-        for at in 0..self.ordered.len().min(self.counts.len()) {
-            let column = (oldest + at % MINUTES) % MINUTES;
-            let from = (at - at % MINUTES).saturating_add(column);
-            if let (Some(to), Some(count)) = (self.ordered.get_mut(at), self.counts.get(from)) {
-                *to = *count;
-            }
-        }
-    }
-
-    /// The counts of the station at a place, as they were put in order last.
-    pub fn of(&self, place: usize) -> &[u32] {
-        if place >= 1 << 20 {
-            return &[];
-        }
-        let from = place * MINUTES;
-        match self.ordered.get(from..from + MINUTES) {
-            Some(counts) => counts,
-            None => &[],
-        }
+    /// So many records came in a minute. It stays at 2^32 - 1.
+    pub fn add(&mut self, minute: u64, came: u64)
+        ensures { self.new ≡ counted minute came self.old }
+    {
+        self.reach(minute);
+        let came = u32::try_from(came).unwrap_or(u32::MAX);
+        self.counts[59] = self.counts[59].saturating_add(came);
     }
 }

@@ -1,15 +1,14 @@
 //! A server that is watched.
-ghost use Rattle.std.specs.Prelude.{◌≡◌, [], IfSome, length, option_map, slice_get};
+ghost use Rattle.std.specs.Prelude.{◌≡◌, ◌≢◌, ◌/◌, [], IfOk, IfSome, Some, false, length, map, option_map, slice_get};
 ghost use Rattle.std.specs.Option.{unwrap_or};
 ghost use Rattle.protocol.specs.Catalog.{Config as ProtocolConfig};
 ghost use Rattle.protocol.specs.World.{World};
 ghost use Rattle.server_core.specs.ServerValues.{StandsAt};
 ghost use Rattle.event_loop.specs.Hearing.{clients_in, feeds_in};
-ghost use Rattle.server_watch.specs.Watching.{TellsOf, with_visitor_of};
+ghost use Rattle.server_watch.specs.Watching.{TellsOf, all_noted, reaching, with_visitor_of};
 
-use crate::arrivals::Arrivals;
+use crate::arrivals::{Arrivals, note_all, reach_all};
 use crate::behind::behind_of;
-use crate::minutes::Minutes;
 use crate::visitors::{PresentClient, PresentClients};
 use catalog::{Config, Station};
 use event_loop::{Loop, Role, Seat};
@@ -42,53 +41,20 @@ pub struct Told<'a> {
     pub turns: TurnTimes<'a>,
 }
 
-/// What was seen of a server.
+/// Who follows which station, and what is told of clients.
 #[derive(Drop)]
-pub struct Watch {
-    arrivals: Vec<Arrivals>,
-    minutes: Minutes,
+struct Crowd {
     followers: Vec<u64>,
     clients: Vec<ClientStatus>,
-    /// The second of the last look at records, and that of the last look at clients.
-    noted: Option<u64>,
-    gathered: Option<u64>,
 }
 
-impl Watch {
-    /// A server with that configuration that begins now: the time is 0. Only memory can lack.
-    pub fn new(alloc: Global, config: &Config) -> Result<Watch, AllocError> {
-        let stations = config.stations().len();
-        let mut arrivals = Vec::with_capacity(alloc, stations)?;
-        arrivals.resize(stations, Arrivals { seen: 0, last: 0 })?;
+impl Crowd {
+    /// Nobody, for so many stations and clients.
+    fn new(alloc: Global, stations: usize, clients: usize) -> Result<Crowd, AllocError> {
         let mut followers = Vec::with_capacity(alloc, stations)?;
         followers.resize(stations, 0)?;
-        let clients = Vec::with_capacity(alloc, CLIENTS.min(config.max_connections()))?;
-        Ok(Watch {
-            arrivals,
-            minutes: Minutes::new(alloc, stations)?,
-            followers,
-            clients,
-            noted: None,
-            gathered: None,
-        })
-    }
-
-    /// Looks at the records that came, once a second. It takes no memory.
-    pub fn note(&mut self, now: u64, rings: &Rings) {
-        let second = now / 1_000;
-        if self.noted == Some(second) {
-            return;
-        }
-        self.noted = Some(second);
-        self.minutes.advance(second / 60);
-        for (place, arrivals) in self.arrivals.iter_mut().enumerate() {
-            if let Some(ring) = rings.ring(place) {
-                let came = arrivals.note(ring.pushes(), now);
-                if came > 0 {
-                    self.minutes.add(place, came);
-                }
-            }
-        }
+        let clients = Vec::with_capacity(alloc, CLIENTS.min(clients))?;
+        Ok(Crowd { followers, clients })
     }
 
     /// Nobody follows a station.
@@ -124,18 +90,69 @@ impl Watch {
         }
     }
 
+    /// Looks at all clients of a server.
+    fn count<P: Ports>(&mut self, now: u64, server: &Loop<P>, visitors: &PresentClients) {
+        self.forget();
+        for seat in server.seats() {
+            self.tell(server.server(), seat, now, visitors);
+        }
+    }
+}
+
+/// What was seen of a server.
+#[derive(Drop)]
+pub struct Watch {
+    arrivals: Vec<Arrivals>,
+    crowd: Crowd,
+    /// The second of the last look at records, and that of the last look at clients.
+    noted: Option<u64>,
+    gathered: Option<u64>,
+}
+
+impl Watch {
+    /// A server with that configuration that begins now: the time is 0. Only memory can lack.
+    pub fn new(alloc: Global, config: &Config) -> Result<Watch, AllocError> {
+        let stations = config.stations().len();
+        let mut arrivals = Vec::with_capacity(alloc, stations)?;
+        arrivals.resize(stations, Arrivals::new())?;
+        let crowd = Crowd::new(alloc, stations, config.max_connections())?;
+        Ok(Watch {
+            arrivals,
+            crowd,
+            noted: None,
+            gathered: None,
+        })
+    }
+
+    /// Looks at the records that came, once a second. It takes no memory.
+    pub fn note(&mut self, now: u64, rings: &Rings)
+        ensures again { self.old.noted ≡ Some (now / 1000) → self.new ≡ self.old }
+        ensures second { self.new.noted ≡ Some (now / 1000) }
+        ensures arrivals { self.old.noted ≢ Some (now / 1000) →
+            self.new.arrivals.items ≡ all_noted now self.old.arrivals.items rings.now.rings }
+    {
+        let second = now / 1_000;
+        if self.noted == Some(second) {
+            return;
+        }
+        self.noted = Some(second);
+        note_all(self.arrivals.as_mut_slice(), rings, now);
+    }
+
     /// Looks at the clients, once a second at most.
-    pub fn gather<P: Ports>(&mut self, now: u64, server: &Loop<P>, visitors: &PresentClients) {
+    pub fn gather<P: Ports>(&mut self, now: u64, server: &Loop<P>, visitors: &PresentClients)
+        ensures again { self.old.gathered ≡ Some (now / 1000) → self.new ≡ self.old }
+        ensures second { self.new.gathered ≡ Some (now / 1000) }
+        ensures minutes { self.old.gathered ≢ Some (now / 1000) →
+            self.new.arrivals.items ≡ map (reaching (now / 60000)) self.old.arrivals.items }
+    {
         let second = now / 1_000;
         if self.gathered == Some(second) {
             return;
         }
         self.gathered = Some(second);
-        self.forget();
-        for seat in server.seats() {
-            self.tell(server.server(), seat, now, visitors);
-        }
-        self.minutes.order();
+        reach_all(self.arrivals.as_mut_slice(), now / 60_000);
+        self.crowd.count(now, server, visitors);
     }
 
     /// What is told of the station at a place, if one is there.
@@ -152,7 +169,7 @@ impl Watch {
     {
         let ring = rings.ring(place)?;
         let arrivals = self.arrivals.get(place)?;
-        let followers = self.followers.get(place)?;
+        let followers = self.crowd.followers.get(place)?;
         Some(StationStatus {
             network: station.network(),
             code: station.code(),
@@ -164,7 +181,7 @@ impl Watch {
             records: ring.pushes(),
             last: last_of(ring),
             age: arrivals.age(now),
-            minutes: self.minutes.of(place),
+            minutes: &arrivals.minutes.counts,
             followers: *followers,
         })
     }
@@ -228,7 +245,7 @@ impl Watch {
             client_bytes: told.client_bytes,
             turns: told.turns,
             stations,
-            clients: self.clients.as_slice(),
+            clients: self.crowd.clients.as_slice(),
         }
     }
 }
