@@ -1,1 +1,2 @@
 mod ColumnLemmas
+mod LengthLemmas

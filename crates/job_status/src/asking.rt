@@ -1,54 +1,78 @@
 //! A question to a status port over a connection.
 use crate::status_fault::StatusFault;
+use files::milliseconds;
 use incidents::Failure;
-use sl_io::{Outer, ReadFault, read_all, write_all};
-use std::alloc::Global;
-use std::io::{Read, Write};
+use sl_io::{Outer, write_all};
+use std::io::Read;
 use std::net::TcpStream;
 use std::time::Duration;
 
 /// What is asked.
 const QUESTION: &[u8] = b"GET /plain HTTP/1.1\r\nHost: localhost\r\nConnection: close\r\n\r\n";
 
-/// How many seconds each byte is waited for.
-const PATIENCE: u64 = 10;
+/// How many milliseconds the whole answer is waited for.
+const PATIENCE: u64 = 10_000;
 
-/// How many bytes of an answer are taken: those of 65,536 stations and more.
-const MOST: u64 = 1 << 26;
+/// How many bytes of an answer are taken: 4 MiB.
+const MOST: usize = 1 << 22;
+
+/// How many bytes a read asks for.
+const BLOCK: usize = 65_536;
 
 /// What failed while a status port was to answer.
 fn ended() -> Failure {
     StatusFault::Ended.failure()
 }
 
-/// Asks over a connection, and gives it back.
-fn put_question(stream: TcpStream) -> Result<TcpStream, Failure> {
+/// Asks over a connection.
+fn put_question(stream: &TcpStream) -> Result<(), Failure> {
     let mut out = Outer::new(stream);
     match write_all(&mut out, QUESTION) {
-        Ok(()) => Ok(out.into_inner()),
+        Ok(()) => Ok(()),
         Err(_) => Err(ended()),
     }
 }
 
-/// Takes what is answered, to the end of the connection.
-fn take_answer(alloc: Global, stream: TcpStream) -> Result<Vec<u8>, Failure> {
-    let mut input = Outer::new(stream.take(MOST));
-    match read_all(alloc, &mut input) {
-        Ok(bytes) => Ok(bytes),
-        Err(ReadFault::OutOfMemory) => Err(Failure::out_of_memory()),
-        Err(ReadFault::Read) => Err(ended()),
-    }
-}
-
-/// Asks a status port for its two tables over a connection, and takes what it answers. It fails with Status Ended if
-/// nothing came for ten seconds or the connection broke off, and for want of memory.
-pub fn ask(alloc: Global, stream: TcpStream) -> Result<Vec<u8>, Failure> {
+/// Adds some bytes that come within so many milliseconds. How many came: 0 at the end.
+fn read_within(stream: &TcpStream, bytes: &mut Vec<u8>, left: u64) -> Result<usize, Failure> {
     if stream
-        .set_read_timeout(Some(Duration::from_secs(PATIENCE)))
+        .set_read_timeout(Some(Duration::from_millis(left)))
         .is_err()
     {
         return Err(ended());
     }
-    let stream = put_question(stream)?;
-    take_answer(alloc, stream)
+    let mut block = [0u8; BLOCK];
+    let mut from = stream;
+    let count = match from.read(&mut block) {
+        Ok(count) => count.min(BLOCK),
+        Err(_) => return Err(ended()),
+    };
+    match bytes.extend_from_slice(&block[..count]) {
+        Ok(()) => Ok(count),
+        Err(_) => Err(Failure::out_of_memory()),
+    }
+}
+
+/// Takes what is answered, to the end of the connection, within ten seconds, and 4 MiB at most.
+fn take_answer(rt: &HostRuntime, stream: &TcpStream) -> Result<Vec<u8>, Failure> {
+    let begin = milliseconds(rt);
+    let mut bytes = Vec::new(rt.alloc());
+    for _ in 0..MOST {
+        let passed = milliseconds(rt).saturating_sub(begin);
+        if passed >= PATIENCE || bytes.len() > MOST {
+            return Err(ended());
+        }
+        if read_within(stream, &mut bytes, PATIENCE - passed)? == 0 {
+            return Ok(bytes);
+        }
+    }
+    Err(ended())
+}
+
+/// Asks a status port for its two tables over a connection, and takes what it answers. It fails with Status Ended if
+/// the answer was not there after ten seconds, if it is longer than 4 MiB or if the connection broke off, and for want
+/// of memory.
+pub fn ask(rt: &HostRuntime, stream: &TcpStream) -> Result<Vec<u8>, Failure> {
+    put_question(stream)?;
+    take_answer(rt, stream)
 }

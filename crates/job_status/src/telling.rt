@@ -1,4 +1,7 @@
 //! How a server stands, on the standard output.
+ghost use Rattle.std.specs.Prelude.{ℕ, IfOk, List};
+ghost use Rattle.job_status.specs.Answers.{Answers};
+
 use crate::answer::answer_in;
 use crate::asking::ask;
 use crate::columns::laid_out;
@@ -18,7 +21,9 @@ fn write_text(rt: &HostRuntime, text: &[u8]) -> Result<(), Failure> {
 }
 
 /// Writes what an answer tells. Whether a station is silent.
-fn tell_answer(rt: &HostRuntime, bytes: &[u8]) -> Result<bool, Failure> {
+fn tell_answer(rt: &HostRuntime, bytes: &[u8]) -> Result<bool, Failure>
+    ensures { IfOk result (λ is_silent. (body : List ℕ) × Answers bytes.now body is_silent) }
+{
     let answer = match answer_in(bytes) {
         Ok(answer) => answer,
         Err(fault) => return Err(fault.failure()),
@@ -32,7 +37,7 @@ fn tell_answer(rt: &HostRuntime, bytes: &[u8]) -> Result<bool, Failure> {
 
 /// Asks a server over a connection that is open, and writes what it answers. Whether a station is silent.
 fn tell_by(rt: &HostRuntime, stream: TcpStream) -> Result<bool, Failure> {
-    let bytes = ask(rt.alloc(), stream)?;
+    let bytes = ask(rt, &stream)?;
     tell_answer(rt, bytes.as_slice())
 }
 
