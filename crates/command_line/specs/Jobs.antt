@@ -2,7 +2,7 @@
 -- number stands at each of its arguments.
 use Rattle.std.specs.Prelude.{◌≡◌, ◌⊎◌, ◌&&◌, ◌||◌, not, is_some, ℕ, Bool, true, false, List, [], map}
 use Rattle.std.specs.Prelude.{Option, Some, None, option_map}
-use Rattle.std.specs.Prelude.{◌∷◌, ◌+◌, ◌==◌, if◌then◌else◌, codes, drop, nat_lt, option_and_then, position, take}
+use Rattle.std.specs.Prelude.{◌∷◌, ◌+◌, ◌==◌, if◌then◌else◌, codes, drop, nat_lt, length, option_and_then, position, take}
 use Rattle.std.specs.Prelude.{IsSome}
 use Rattle.std.specs.Option.{option_map_or}
 use Rattle.std.specs.Str.{bytes_eq}
@@ -383,11 +383,26 @@ read_asked rows =
 abbrev pub status_asked : List Row → Option Asked
 status_asked rows = option_map Status (first_of (codes "SERVER") rows)
 
+-- nothing
+abbrev pub is_nothing : List ℕ → Bool
+is_nothing text = length text == 0
+
+-- an option has no text
+abbrev pub is_empty_in : Text → List Row → Bool
+is_empty_in name rows = option_map_or is_nothing (first_of name rows) false
+
+-- an option that names a file or a folder names none
+abbrev pub names_nothing : List Row → Bool
+names_nothing rows =
+    is_empty_in (codes "archive") rows || is_empty_in (codes "output") rows || is_empty_in (codes "state") rows
+    || is_empty_in (codes "wants") rows || is_empty_in (codes "numbers") rows || is_empty_in (codes "config") rows
+
 -- the job of a subcommand with its arguments
 abbrev pub asked_by : Option (Text × List Row) → Option Asked
 asked_by None = None
 asked_by (Some p) =
-    if bytes_eq p.0 (codes "check") then check_asked p.1
+    if names_nothing p.1 then None
+    else if bytes_eq p.0 (codes "check") then check_asked p.1
     else if bytes_eq p.0 (codes "replay") then replay_asked p.1
     else if bytes_eq p.0 (codes "view") then view_asked p.1
     else if bytes_eq p.0 (codes "serve") then serve_asked p.1

@@ -1,7 +1,7 @@
 //! What the user is told of words that `clap` takes and that are no job.
 use crate::commands::command_named;
 use crate::job::ReadOptions;
-use crate::words::{number_in, period_in, read_options, text_at, texts_at};
+use crate::words::{names_nothing, number_in, period_in, read_options, text_at, texts_at};
 use clap::ArgMatches;
 use clap::error::ErrorKind;
 use std::alloc::{AllocError, Global};
@@ -77,6 +77,9 @@ fn feed_mistake(arguments: &ArgMatches<'_>) -> &'static str {
 
 /// What is wrong with the words of a command.
 fn mistake_in(name: &str, arguments: &ArgMatches<'_>) -> &'static str {
+    if names_nothing(arguments) {
+        return "the name of a file or folder is empty";
+    }
     match name {
         "read" => read_mistake(arguments),
         "serve" => serve_mistake(arguments),

@@ -6,7 +6,7 @@ ghost use Rattle.command_line.specs.Jobs.{check_options_asked, check_options_in,
 ghost use Rattle.command_line.specs.Jobs.{HelpIs, IsJob, IsTold, asked, asked_by, check_asked, feed_asked, is_shown};
 ghost use Rattle.command_line.specs.Jobs.{period_in, period_of, feed_options_asked, feed_options_in, goes_on};
 ghost use Rattle.command_line.specs.Jobs.{is_askable, is_spelled, job_of, number_in};
-ghost use Rattle.command_line.specs.Jobs.{number_of};
+ghost use Rattle.command_line.specs.Jobs.{is_empty_in, names_nothing, number_of};
 ghost use Rattle.command_line.specs.Jobs.{options_asked, options_in, read_asked, replay_asked};
 ghost use Rattle.command_line.specs.Jobs.{is_without_page, seconds_if, serve_asked, serve_options_asked};
 ghost use Rattle.command_line.specs.Jobs.{status_asked, verbose_by, verbose_in, verbose_of, view_asked, wants_by};
@@ -331,12 +331,37 @@ fn status_job<'a>(arguments: &ArgMatches<'a>) -> Option<Job<'a>>
     Some(Job::Status { server })
 }
 
+/// Whether an option has no text.
+fn is_empty_in(arguments: &ArgMatches<'_>, name: &str) -> bool
+    ensures { result ≡ is_empty_in name.now (rows_of (found_of arguments.now)) }
+{
+    match text_at(arguments, name) {
+        Some(text) => text.is_empty(),
+        None => false,
+    }
+}
+
+/// Whether an option that names a file or a folder names none, as one whose text is a variable that isn't set.
+pub fn names_nothing(arguments: &ArgMatches<'_>) -> bool
+    ensures { result ≡ names_nothing (rows_of (found_of arguments.now)) }
+{
+    is_empty_in(arguments, "archive")
+        || is_empty_in(arguments, "output")
+        || is_empty_in(arguments, "state")
+        || is_empty_in(arguments, "wants")
+        || is_empty_in(arguments, "numbers")
+        || is_empty_in(arguments, "config")
+}
+
 fn job_in<'a>(alloc: Global, matches: &ArgMatches<'a>) -> Result<Option<Job<'a>>, AllocError>
     ensures { IfOk result (λ job. option_map asked job ≡ asked_by (subcommand_rows_of matches.now)) }
 {
     let Some((name, arguments)) = matches.subcommand() else {
         return Ok(None);
     };
+    if names_nothing(arguments) {
+        return Ok(None);
+    }
     match name {
         "check" => check_job(alloc, arguments),
         "replay" => Ok(replay_job(arguments)),
