@@ -94,18 +94,42 @@ class Again(kit.Test):
         self.fetch(server, "GE_WLF", *into)
         self.assert_once(path, 13)
 
+    def test_a_planned_restart(self):
+        """`examples/restart` feeds a new server what the old one held, under other numbers. The reader follows all the time."""
+        server = self.serve(CONFIG.replace("16384", "40"), "--numbers", "numbers")
+        self.reader(server, "GE_WLF@0", "--retry", "1", "--state", "state", "--archive", "archive")
+        for first, end in ((0, 20), (20, 50)):
+            server.feed(*map(record, range(first, end)))
+            kit.until(lambda: os.path.exists(DAY) and kit.identities_in(DAY) == list(range(end)), "%d records" % end)
+        kit.restart_by_script(self, server, server.process.pid, "held", "--numbers", "numbers")
+        kit.write("more", b"".join(map(record, range(50, 60))))
+        self.assertEqual(self.run_program("feed", server.feed_address, "more").status, 0)
+        kit.until(lambda: set(range(60)) <= set(kit.identities_in(DAY)), "60 records")
+        self.assert_once(DAY, 60)
+
     def test_a_server_whose_numbers_are_ahead(self):
         self.fetch(self.server_of(10), "GE_WLF", "--archive", "archive")
         self.fetch(self.server_of(15, CONFIG + 'first = "1388"\n'), "GE_WLF", "--archive", "archive")
         self.assert_once(DAY, 15)
 
     @kit.rows(INTO)
+    def test_two_lines_of_one_file(self, into, path, name):
+        """One of them would count, and the other would be passed over without a word."""
+        os.makedirs(os.path.dirname(path) or ".", exist_ok=True)
+        kit.write(path, b"".join(map(record, range(15))))
+        text = kit.text_of(kit.write("state", "GE WLF 000009 -\n#\n%s 15\n%s 10\n" % (name, name)))
+        ended = self.reader(self.server_of(20), "GE_WLF", *into, "--fetch", "--state", "state").await_end()
+        self.assertEqual((ended.status, ended.said, kit.text_of("state")), (1, "seedlinkd: 53 State\n", text))
+        self.assertEqual(kit.identities_in(path), list(range(15)))
+
+    @kit.rows(INTO)
     def test_a_file_that_is_shorter_than_the_state_counts(self, into, path, name):
         os.makedirs(os.path.dirname(path) or ".", exist_ok=True)
         kit.write(path, b"".join(map(record, range(15))))
         kit.write("state", "GE WLF 000009 -\n#\n%s 20\n" % name)
-        self.fetch(self.server_of(20), "GE_WLF", *into)
+        ended = self.fetch(self.server_of(20), "GE_WLF", *into)
         self.assert_once(path, 20)
+        self.assertEqual(ended.said, "seedlinkd: 15 records in %s, where 20 were counted\n" % path)
 
     @kit.rows([INTO[0] + ("",), INTO[1] + ("#\n- 0\n",)])
     def test_a_hole_is_filled(self, into, path, _, lengths):

@@ -138,3 +138,35 @@ class Once(kit.Test):
     @kit.limit(120 + 3 * STOPS)
     def test_many_stops(self):
         self.stop_and_start(STOPS, int(os.environ.get("TRIED_SEED", random.randrange(1_000_000))))
+
+    def restart_and_go_on(self, restarts, seed):
+        """`examples/restart` feeds the server anew what it held, under other numbers, while a reader is killed."""
+        chance = random.Random(seed)
+        self.server = self.serve(CONFIG, "--numbers", "numbers")
+        self.readers = {"archive": self.read_into("archive")}
+        feeder = Feeder(self.server.feeds, 0, random.Random(seed + 1))
+        feeder.start()
+        process = self.server.process.pid
+        for number in range(restarts):
+            enough = feeder.fed + chance.randint(20, 400)
+            kit.until(lambda: feeder.fed >= enough, "records that the server is fed")
+            if number % 2:
+                self.readers["archive"].end(signal.SIGKILL)
+                self.readers["archive"] = self.read_into("archive")
+            process = kit.restart_by_script(self, self.server, process, "held-%d" % number, "--numbers", "numbers")
+        enough = feeder.fed + 50
+        kit.until(lambda: feeder.fed >= enough, "records that the last server is fed")
+        feeder.finish()
+        self.await_all("archive", range(feeder.begins[-1], feeder.fed))
+        self.assert_last_ones_are_missing("archive", feeder.begins, feeder.fed)
+
+    @kit.unreleased
+    @kit.limit(90)
+    def test_a_few_planned_restarts(self):
+        self.restart_and_go_on(3, 95)
+
+    @kit.slow
+    @kit.unreleased
+    @kit.limit(120 + 3 * STOPS)
+    def test_many_planned_restarts(self):
+        self.restart_and_go_on(max(STOPS // 5, 1), int(os.environ.get("TRIED_SEED", random.randrange(1_000_000))))

@@ -134,6 +134,13 @@ NO_STATES = [
     "#\n- +1\n",
     "#\n-\n", "#\na b 1\n", "#- 1\n", "#\n- 1", "#\n- 18446744073709551616\n", "#\n- 1\nGE APE 00000A -\n",
 ]
+# The text of a state, and the line that is wrong.
+WRONG_LINES = [
+    ("\n", 1), ("GE APE 00000A -", 1), ("GE APE 00000A -\n\n", 2), ("GE APE 00000A -\nGE WLF 000001 -\nGE APE 00000b -\n", 3),
+    ("GE APE 00000A -\n#\n", 2), ("#\n- 01\n", 2), ("#- 1\n", 1), ("#\n- 1", 2), ("#\n- 1\nGE APE 00000A -\n", 3), ("#\n- 1\n#\n", 3),
+    ("#\n- 1\n- 1\n", 3), ("GE APE 00000A -\n#\na 1\nb 2\nab 3\nb 4\nc 5\n", 6),
+    ("GE APE 00000A -\nGE APE 00000B -\n#\na 1\na 1\n", 5),
+]
 LISTED = "FFFFFF GE WLF -- BHZ D 17091648000000 17091648010000 100\n00ABCD unreadable\n"
 DATED = "FFFFFF GE WLF -- BHZ D 2024-02-29T00:00:00.0000Z 2024-02-29T00:00:01.0000Z 100\n00ABCD unreadable\n"
 
@@ -208,10 +215,16 @@ class Wants(scripted.Test):
 
     @kit.rows([(repr(it), it) for it in NO_STATES])
     def test_no_state(self, text):
-        self.assertEqual(
-            self.kept(text, "ZZ_Q").said,
+        said = self.kept(text, "ZZ_Q").said
+        self.assertTrue(said.startswith(
             "seedlinkd: 53 State\n  cause: the file with the state is not in lines of a network, a station, a number and an end\n"
-            "  file: state\n")
+            "  file: state\n"), said)
+        self.assertEqual(kit.text_of("state"), text)
+
+    @kit.unreleased
+    @kit.rows([(repr(it), it, line) for it, line in WRONG_LINES])
+    def test_the_line_of_a_state_that_is_wrong(self, text, line):
+        self.assert_ends(self.kept(text, "ZZ_Q"), 1, "seedlinkd: 53 State\n", "  file: state\n  line: %d\n" % line)
         self.assertEqual(kit.text_of("state"), text)
 
 

@@ -1,3 +1,5 @@
 mod RunLemmas
 mod MemoryLemmas
 pub mod TailLemmas
+mod KnownLemmas
+mod StepLemmas

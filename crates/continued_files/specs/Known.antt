@@ -5,7 +5,7 @@ use Rattle.std.specs.BTreeMap.{BTreeMap, get_by_text}
 use Rattle.std.specs.Str.{bytes_eq}
 use Rattle.continued_files.specs.Indexes.{Indexes}
 use Rattle.continued_files.specs.Lengths.{LengthValue}
-use Rattle.continued_files.specs.Tails.{IsLeft, TailValue, tail_of}
+use Rattle.continued_files.specs.Tails.{HasNone, IsLeft, TailValue, kept_length, tail_of}
 use Rattle.continued_files.specs.declared.continued.Known.{Known}
 use Rattle.continued_files.specs.declared.continued.Unnamed.{Unnamed}
 use Rattle.continued_files.specs.declared.continued.Unnamed.TheVariants.{Kept, Tail}
@@ -14,6 +14,11 @@ use Rattle.continued_files.specs.declared.continued.Unnamed.TheVariants.{Kept, T
 abbrev pub length_of : List LengthValue → List ℕ → Option ℕ
 length_of [] name = None
 length_of (l ∷ ls) name = if bytes_eq l.name name then Some l.count else length_of ls name
+
+-- how many records of a file don't come again, as it is told of one that is known, or named by the state
+abbrev pub length_told : Option Known → Option ℕ → Option ℕ
+length_told None named = named
+length_told (Some k) named = Some (kept_length k.tail.tail k.count)
 
 -- how many records of a file with so many don't come again, by the state
 abbrev pub kept_by : Option ℕ → Unnamed → (count : ℕ) → ℕ
@@ -32,6 +37,27 @@ abbrev pub IsIndexed : Option Known → List (List ℕ) → Type 0
 IsIndexed None rs = Unit {0}
 IsIndexed (Some k) rs = k.count ≤ length rs → Indexes k.tail rs
 
+-- It has no more records than the file.
+abbrev pub IsCounted : Option Known → List (List ℕ) → Type 0
+IsCounted None rs = Unit {0}
+IsCounted (Some k) rs = k.count ≤ length rs
+
+-- So many records were added since one of the tail was handed that what is left of it is given up.
+abbrev pub IsGivenUp : Option Known → Type 0
+IsGivenUp None = ⊥
+IsGivenUp (Some k) = 1048576 ≤ k.added
+
+-- Its tail is over: nothing of it was left, or what was left is given up.
+pub record EndsTail (old new : Known) : Type 0 where
+  pub tail : new.tail.tail ≡ record { from = old.count; left = [] }
+  pub count : new.count ≡ old.count
+  pub over : HasNone old.tail.tail ⊎ (1048576 ≤ old.added)
+
+-- The same is known of a file, or its tail is over.
+pub data Settles : Option Known → Option Known → Type 0 where
+  Stays : (known : Option Known) → Settles known known
+  Ends : (old new : Known) → EndsTail old new → Settles (Some old) (Some new)
+
 -- This tail of the file is known.
 abbrev pub Knows : Option Known → List (List ℕ) → TailValue → Type 0
 Knows None rs t = ⊥
@@ -46,9 +72,11 @@ module _ {Y : Type 0} where
   abbrev pub KnowsOthers : List ℕ → BTreeMap (String Y) Known → BTreeMap (String Y) Known → Type 0
   KnowsOthers name old new = (other : List ℕ) → other ≢ name → get_by_text new other ≡ get_by_text old other
 
-  -- Of each file the same is known, or nothing.
-  abbrev pub ForgetsSome : BTreeMap (String Y) Known → BTreeMap (String Y) Known → Type 0
-  ForgetsSome old new = (name : List ℕ) → (get_by_text new name ≡ get_by_text old name) ⊎ (get_by_text new name ≡ None)
+  -- Of each file what is known fits records that it fitted.
+  abbrev pub KeepsIndexes : BTreeMap (String Y) Known → BTreeMap (String Y) Known → Type 0
+  KeepsIndexes old new = (name : List ℕ) (rs : List (List ℕ)) → IsIndexed (get_by_text old name) rs
+      → IsCounted (get_by_text old name) rs
+      → IsIndexed (get_by_text new name) rs × IsCounted (get_by_text new name) rs
 
   -- Of each file each place is left that was left.
   abbrev pub KeepsTails : BTreeMap (String Y) Known → (List ℕ → ℕ → ℕ) → BTreeMap (String Y) Known
@@ -56,3 +84,11 @@ module _ {Y : Type 0} where
   KeepsTails old kept new kept' = (name : List ℕ) (count place : ℕ) → place < count
       → IsLeft (tail_before (get_by_text old name) (kept name count) count) place
       → IsLeft (tail_before (get_by_text new name) (kept' name count) count) place
+
+  -- Of each file each place is left that was left, unless what is left of its tail is given up.
+  abbrev pub RenewsTails : BTreeMap (String Y) Known → (List ℕ → ℕ → ℕ) → BTreeMap (String Y) Known
+      → (List ℕ → ℕ → ℕ) → Type 0
+  RenewsTails old kept new kept' = (name : List ℕ) (count place : ℕ) → place < count
+      → IsLeft (tail_before (get_by_text old name) (kept name count) count) place
+      → IsLeft (tail_before (get_by_text new name) (kept' name count) count) place
+      ⊎ IsGivenUp (get_by_text old name)

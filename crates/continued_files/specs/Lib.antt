@@ -8,3 +8,4 @@ pub mod Hashes
 pub mod Indexes
 pub mod Known
 pub mod Runs
+pub mod Steps

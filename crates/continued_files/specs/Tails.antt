@@ -18,6 +18,10 @@ IsLeft t place = (t.from ≤ place) × (slice_index_or t.left (place - t.from) f
 abbrev pub first_of : (kept count : ℕ) → ℕ
 first_of kept count = if nat_lt count kept then 0 else kept
 
+-- No place is left.
+abbrev pub HasNone : TailValue → Type 0
+HasNone t = (place : ℕ) → IsLeft t place → ⊥
+
 -- all places of a file from that one on
 abbrev pub all_from : (from count : ℕ) → TailValue
 all_from from count = record { from = from; left = replicate (count - from) true }

@@ -41,6 +41,9 @@ pub trait RecordFiles {
         ensures refused { OnErr result (TellsSame (records self.old) (records self.new)) }
         ensures safe { TellsSame (safe self.old) (safe self.new) };
 
+    /// Whether no file of that name is there any more. It may be said of none.
+    fn is_gone(&self, name: &str) -> bool;
+
     /// Makes all records last that were added so far.
     fn sync(&mut self) -> Result<(), FolderFault>
         ensures same { TellsSame (records self.old) (records self.new) }

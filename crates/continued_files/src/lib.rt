@@ -11,7 +11,7 @@ mod memory_files;
 mod tail;
 mod turns;
 
-pub use continued::{ContinuedFiles, Known, Unnamed};
+pub use continued::{ContinuedFiles, Known, ShortFile, Unnamed};
 pub use files::{FolderFault, RecordFiles};
 pub use law::each_record_stands_once;
 pub use lengths::FileLength;

@@ -146,6 +146,10 @@ impl RecordFiles for MemoryFiles {
         }
     }
 
+    fn is_gone(&self, name: &str) -> bool {
+        count_in(&self.all, name) == 0
+    }
+
     fn sync(&mut self) -> Result<(), FolderFault> {
         self.call()?;
         self.synced = self.all.len();

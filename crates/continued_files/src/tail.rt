@@ -1,10 +1,10 @@
 //! What an earlier reader left at the end of a file.
 ghost use Rattle.std.specs.Prelude.{◌≡◌, ◌+◌, ◌<◌, ◌≤◌, ◌^◌, if◌then◌else◌, ℕ, List, length, IfOk, IfSome, MatchOption};
-ghost use Rattle.std.specs.Prelude.{OnErr, OnOk, replicate, true};
+ghost use Rattle.std.specs.Prelude.{[], OnErr, OnOk, replicate, true};
 ghost use Rattle.continued_files.specs.Files.{Tells, TellsSame, TellsOthers};
 ghost use Rattle.continued_files.specs.Puts.{StandsAfter};
 ghost use Rattle.continued_files.specs.Places.{record_at};
-ghost use Rattle.continued_files.specs.Tails.{AreOthers, IsLeft, Offers, first_of, kept_length, tail_of, without};
+ghost use Rattle.continued_files.specs.Tails.{AreOthers, HasNone, IsLeft, Offers, first_of, kept_length, tail_of, without};
 ghost use Rattle.std.specs.List.Sorted.{IsNonDecreasingBy};
 ghost use Rattle.continued_files.specs.Indexes.{Indexes, IsFirst, entry_of};
 ghost use Rattle.std.specs.List.{Contains};
@@ -31,6 +31,8 @@ pub struct Tail {
     left: Vec<bool>,
     /// All its records, in the order of their numbers.
     order: Vec<Entry>,
+    /// How many of them were handed.
+    taken: usize,
 }
 
 impl Model for Tail {
@@ -132,7 +134,36 @@ impl Tail {
         let Ok(left) = all_left(alloc, count - from) else {
             return Err(FolderFault);
         };
-        Ok(Tail { from, left, order })
+        Ok(Tail {
+            from,
+            left,
+            order,
+            taken: 0,
+        })
+    }
+
+    /// The tail of a file with so many records, none of which is handed again.
+    pub fn none(alloc: Global, count: u64) -> Tail
+        ensures { result.tail ≡ record { from = count; left = [] } }
+    {
+        Tail {
+            from: count,
+            left: Vec::new(alloc),
+            order: Vec::new(alloc),
+            taken: 0,
+        }
+    }
+
+    /// Whether it has places, and none of them is left.
+    pub fn is_over(&self) -> bool
+        ensures { result ≡ true → HasNone self.now.tail }
+    {
+        self.taken > 0 && self.taken >= self.left.len() && !self.left.contains(&true)
+    }
+
+    /// Whether it has places.
+    pub fn is_held(&self) -> bool {
+        !self.left.is_empty()
     }
 
     /// How many records of the file, which has so many, don't come again.
@@ -168,6 +199,7 @@ impl Tail {
         if let Some(at) = place.checked_sub(self.from) {
             if let Some(is_left) = self.left.get_mut(at as usize) {
                 *is_left = false;
+                self.taken = self.taken.saturating_add(1);
             }
         }
     }

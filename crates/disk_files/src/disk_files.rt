@@ -2,6 +2,7 @@
 ghost use Rattle.std.specs.Prelude.{◌≡◌, ◌<◌, IfOk, None, Some, length};
 ghost use Rattle.disk_files.specs.Opened.{name_at};
 
+use crate::folders::{folder_of, make_folders, sync_folder};
 use crate::open_file::{OpenFile, RECORD, identity_of};
 use crate::open_files::{NamedFile, OpenFiles};
 use continued_files::{FolderFault, RecordFiles};
@@ -78,6 +79,14 @@ fn plain_at(rt: &HostRuntime, path: &str) -> io::Result<Option<Metadata>> {
     }
 }
 
+/// Whether a path names nothing.
+fn is_gone(rt: &HostRuntime, path: &str) -> bool {
+    match fs::metadata(rt, path) {
+        Ok(_) => false,
+        Err(reason) => reason.kind() == ErrorKind::NotFound,
+    }
+}
+
 /// A file to which is added and from which is read, which is made if it is not there.
 fn opened_at(rt: &HostRuntime, path: &str) -> io::Result<File> {
     OpenOptions::new()
@@ -87,31 +96,19 @@ fn opened_at(rt: &HostRuntime, path: &str) -> io::Result<File> {
         .open(rt, path)
 }
 
-/// The folder that a path lies in.
-fn folder_of(path: &str) -> Option<&str> {
-    match path.rsplit_once('/') {
-        Some(("", _)) => None,
-        Some((folder, _)) => Some(folder),
-        None => None,
-    }
-}
-
-/// The same, in a folder that is made if it is not there.
-fn made_at(rt: &HostRuntime, path: &str) -> io::Result<File> {
-    match (opened_at(rt, path), folder_of(path)) {
-        (Err(reason), Some(folder)) if reason.kind() == ErrorKind::NotFound => {
-            fs::create_dir_all(rt, folder)?;
+/// The same, in a folder that is made if it is not there. If it is to last, so are the folders that are made.
+fn made_at(rt: &HostRuntime, path: &str, lasts: bool) -> io::Result<File> {
+    match opened_at(rt, path) {
+        Err(reason) if reason.kind() == ErrorKind::NotFound => {
+            let folder = folder_of(path).unwrap_or(".");
+            if lasts {
+                make_folders(rt, folder)?;
+            } else {
+                fs::create_dir_all(rt, folder)?;
+            }
             opened_at(rt, path)
         }
-        (opened, _) => opened,
-    }
-}
-
-/// Has the system put the folder of a new file on the disk. What fails is passed over, since some systems don't do it
-/// for folders.
-fn sync_folder(rt: &HostRuntime, path: &str) {
-    if let Ok(folder) = fs::open(rt, folder_of(path).unwrap_or(".")) {
-        let _ = folder.sync_all();
+        opened => opened,
     }
 }
 
@@ -229,7 +226,7 @@ impl<'a> DiskFiles<'a> {
     /// Opens a file. While no descriptor can be had, others are let go.
     fn open_at(&mut self, path: &str) -> io::Result<File> {
         for _ in 0..u64::MAX {
-            match made_at(self.rt, path) {
+            match made_at(self.rt, path, self.lasts) {
                 Err(reason) if is_full(&reason) => {
                     if !self.let_go_old() {
                         return Err(reason);
@@ -247,7 +244,7 @@ impl<'a> DiskFiles<'a> {
         let is_new = plain_at(self.rt, path.as_str())?.is_none();
         let file = self.open_at(path.as_str())?;
         if is_new && self.lasts {
-            sync_folder(self.rt, path.as_str());
+            sync_folder(self.rt, folder_of(path.as_str()).unwrap_or("."));
         }
         let opened = OpenFile::new(file, self.now, self.piece)?;
         self.keep_open(name, path, opened)
@@ -434,6 +431,13 @@ impl RecordFiles for DiskFiles<'_> {
     fn add(&mut self, name: &str, bytes: &[u8; 512]) -> Result<(), FolderFault> {
         let added = self.add_at(name, bytes);
         self.tell(name, added)
+    }
+
+    fn is_gone(&self, name: &str) -> bool {
+        match self.path_of(name) {
+            Ok(path) => is_gone(self.rt, path.as_str()),
+            Err(_) => false,
+        }
     }
 
     fn sync(&mut self) -> Result<(), FolderFault> {

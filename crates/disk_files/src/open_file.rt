@@ -1,6 +1,6 @@
 //! A file of records that is open.
 use std::cell::Cell;
-use std::fs::{File, Metadata};
+use std::fs::{self, File, Metadata};
 use std::io::{self, ErrorKind, Write};
 use std::os::unix::fs::{FileExt, MetadataExt};
 
@@ -13,6 +13,14 @@ pub(crate) type Identity = (u64, u64);
 /// Which file that is.
 pub(crate) fn identity_of(metadata: &Metadata) -> Identity {
     (metadata.dev(), metadata.ino())
+}
+
+/// Whether a path still names a file that is open.
+pub fn is_named(rt: &HostRuntime, file: &File, path: &str) -> bool {
+    let (Ok(open), Ok(found)) = (file.metadata(), fs::metadata(rt, path)) else {
+        return false;
+    };
+    open.dev() == found.dev() && open.ino() == found.ino()
 }
 
 /// A file of records that is open.

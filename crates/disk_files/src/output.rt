@@ -1,12 +1,15 @@
 //! One file to which records are put.
-ghost use Rattle.std.specs.Prelude.{◌≡◌, ℕ, List, OnOk, codes};
+ghost use Rattle.std.specs.Prelude.{◌≡◌, ℕ, IfOk, List, OnOk, codes};
+ghost use Rattle.std.specs.Str.{IsUtf8};
 ghost use Rattle.continued_files.specs.Files.{MakesSafe, TellsSame};
-ghost use Rattle.continued_files.specs.Known.{kept_by, known_at, length_of, tail_before};
+ghost use Rattle.continued_files.specs.Known.{kept_by, known_at, length_of, length_told, tail_before};
 ghost use Rattle.continued_files.specs.Puts.{StandsAfter};
+ghost use Rattle.continued_files.specs.Runs.{Moment, Numbers, after_return};
+ghost use Rattle.continued_files.specs.Steps.{HandsStep, IsAt, SyncsStep, files_value};
 ghost use Rattle.continued_files.specs.Tails.{all_from};
 
 use crate::disk_files::{DiskFiles, FileFailure};
-use continued_files::{ContinuedFiles, FileLength, FolderFault, RecordFiles};
+use continued_files::{ContinuedFiles, FileLength, FolderFault, RecordFiles, ShortFile};
 
 /// The name of the one file.
 pub const ONE_FILE: &str = "-";
@@ -36,6 +39,12 @@ impl<F: RecordFiles> ContinuedOutput<F> {
     /// Makes all records last that were put so far, and then tells how many of them don't come again.
     pub fn last(&mut self) -> Result<Vec<FileLength>, FolderFault>
         ensures safe { OnOk result (MakesSafe (F.records self.new.files.files) (F.safe self.new.files.files)) }
+        ensures step { OnOk result (SyncsStep (files_value (F.records self.old.files.files) (F.safe self.old.files.files)
+            self.old.files.all self.old.files.named.items self.old.files.unnamed)
+            (files_value (F.records self.new.files.files) (F.safe self.new.files.files)
+            self.new.files.all self.new.files.named.items self.new.files.unnamed)) }
+        ensures lengths { IfOk result (λ lengths. (name : List ℕ) → IsUtf8 name → length_of lengths.items name
+            ≡ length_told (known_at self.new.files.all name) (length_of self.new.files.named.items name)) }
     {
         self.files.last()
     }
@@ -44,6 +53,10 @@ impl<F: RecordFiles> ContinuedOutput<F> {
     pub fn put(&mut self, bytes: &[u8; 512]) -> Result<(), FolderFault>
         ensures stands { OnOk result (StandsAfter (codes "-") bytes.now
             (F.records self.old.files.files) (F.records self.new.files.files)) }
+        ensures step { OnOk result (HandsStep (files_value (F.records self.old.files.files) (F.safe self.old.files.files)
+            self.old.files.all self.old.files.named.items self.old.files.unnamed)
+            (files_value (F.records self.new.files.files) (F.safe self.new.files.files)
+            self.new.files.all self.new.files.named.items self.new.files.unnamed) (codes "-") bytes.now) }
         ensures safe { TellsSame (F.safe self.old.files.files) (F.safe self.new.files.files) }
     {
         self.files.hand(ONE_FILE, bytes)
@@ -54,13 +67,17 @@ impl<F: RecordFiles> ContinuedOutput<F> {
         ensures tails { (name : List ℕ) (count : ℕ) → tail_before (known_at self.new.files.all name)
             (kept_by (length_of self.new.files.named.items name) self.new.files.unnamed count) count
             ≡ all_from 0 count }
+        ensures step { (m : Moment) (name : List ℕ) (comes : Numbers) → IsAt (files_value (F.records self.old.files.files) (F.safe self.old.files.files)
+            self.old.files.all self.old.files.named.items self.old.files.unnamed) name m
+            → IsAt (files_value (F.records self.new.files.files) (F.safe self.new.files.files)
+            self.new.files.all self.new.files.named.items self.new.files.unnamed) name (after_return m comes) }
         ensures same { self.new.files.files ≡ self.old.files.files }
     {
         self.files.return_to_begin();
     }
 
-    /// Whether the file had fewer records than the state counts, once: then a state is to be kept at once.
-    pub fn take_short(&mut self) -> bool
+    /// The file, if it had fewer records than were counted, once: then a state is to be kept at once.
+    pub fn take_short(&mut self) -> Option<ShortFile>
         ensures { self.new.files.files ≡ self.old.files.files }
     {
         self.files.take_short()

@@ -1,10 +1,11 @@
 //! Records that are read into an archive.
 ghost use Rattle.std.specs.Prelude.{◌≡◌, None};
 
+use crate::locks::{HeldLock, LookTime};
 use crate::moment::Moment;
 use crate::notices::{ErrorTeller, Notice, Teller};
 use crate::returns::LastNumbers;
-use crate::torn::tell_torn;
+use crate::torn::{tell_short, tell_torn};
 use crate::unplaced::UnplacedCount;
 use continued_files::{ContinuedFiles, FileLength, FolderFault, RecordFiles, Unnamed};
 use disk_files::{ContinuedOutput, DiskFiles, FileFailure, FilePlace, ONE_FILE};
@@ -37,7 +38,12 @@ pub struct ToldArchive<'r> {
     archive: RefCell<DiskArchive<'r>>,
     numbers: LastNumbers,
     moment: &'r Moment,
-    _locks: StationLocks,
+    top: &'r str,
+    locks: StationLocks,
+    /// When it was looked last whether the paths of the locks still name them.
+    looked: LookTime,
+    /// Why the stations are not locked any more.
+    unlocked: Option<TopFault>,
     teller: ErrorTeller<'r>,
     count: UnplacedCount,
     failures: u64,
@@ -101,7 +107,10 @@ pub fn archive_at<'r, 'a: 'r>(
         archive: RefCell::new(Archive::new(rt.alloc(), files, stations)),
         numbers,
         moment,
-        _locks: locks,
+        top,
+        locks,
+        looked: LookTime::new(milliseconds(rt)),
+        unlocked: None,
         teller: ErrorTeller::new(rt),
         count: UnplacedCount::new(),
         failures: 0,
@@ -116,8 +125,15 @@ fn locks_at<'a>(
 ) -> Result<StationLocks, Incident<'a>> {
     match lock_stations(rt, rt.alloc(), top, stations) {
         Ok(locks) => Ok(locks),
-        Err(TopFault::Unopened(reason)) => Err(unopened(top, reason)),
-        Err(TopFault::Locked) => Err(unopened(top, added_to_by_another())),
+        Err(fault) => Err(unlocked(top, fault)),
+    }
+}
+
+/// Why nothing can be put below a folder.
+pub fn unlocked<'a>(top: &'a str, fault: TopFault) -> Incident<'a> {
+    match fault {
+        TopFault::Unopened(reason) => unopened(top, reason),
+        TopFault::Locked => unopened(top, added_to_by_another()),
     }
 }
 
@@ -178,6 +194,22 @@ impl ToldArchive<'_> {
         self.archive.get_mut().take_failure()
     }
 
+    /// Why the stations are not locked any more, if that ended the reading.
+    pub fn take_unlocked(&mut self) -> Option<TopFault> {
+        self.unlocked.take()
+    }
+
+    /// Looks once a second whether the locks still hold.
+    fn renew_locks(&mut self)
+        ensures { self.new.failures ≡ self.old.failures }
+    {
+        if self.looked.is_due(milliseconds(self.rt)) {
+            if let Err(fault) = self.locks.renew(self.rt, self.top) {
+                self.unlocked = Some(fault);
+            }
+        }
+    }
+
     /// Tells of a torn file, and how many records have no place, if that is due.
     fn tell(&mut self, unplaced: u64, torn: Option<String>)
         ensures { self.new.failures ≡ self.old.failures }
@@ -194,9 +226,11 @@ impl ToldArchive<'_> {
 
 /// Puts a record into an archive, and answers as well how many of its records have no place, and which file was torn.
 /// If the numbers of servers went back, all of each file is tail from then on. If a file was found to be shorter than
-/// the state counts, a state is to be kept at once.
+/// was counted, that is told, and a state is to be kept at once.
 #[tactic(auto, unfolding(slreader::specs::Tallies::packet_facts))]
 fn put_to(
+    rt: &HostRuntime,
+    top: &str,
     archive: &mut DiskArchive<'_>,
     packet: &GivenPacket<'_>,
     is_return: bool,
@@ -206,7 +240,8 @@ fn put_to(
         archive.return_to_begin();
     }
     let put = archive.put(packet.record(), packet.header());
-    if archive.take_short() {
+    if let Some(file) = archive.take_short() {
+        tell_short(rt, FilePlace::Below(top), &file);
         moment.hurry();
     }
     let torn = archive.take_torn();
@@ -223,13 +258,25 @@ impl RecordSink for ToldArchive<'_> {
     ghost empty_writes = { λ _. 0 };
 
     fn begin(&mut self) {
+        self.renew_locks();
         self.archive.get_mut().begin();
     }
 
     fn put(&mut self, packet: &GivenPacket<'_>) -> Result<(), SinkFault> {
+        if self.unlocked.is_some() {
+            self.failures = self.failures.wrapping_add(1);
+            return Err(SinkFault::Write);
+        }
         let is_return = self.numbers.note(packet, self.moment.connection());
         let archive = self.archive.get_mut();
-        let (put, unplaced, torn) = put_to(archive, packet, is_return, self.moment);
+        let (put, unplaced, torn) = put_to(
+            self.rt,
+            self.top,
+            archive,
+            packet,
+            is_return,
+            self.moment,
+        );
         self.tell(unplaced, torn);
         match put {
             Ok(()) => Ok(()),
@@ -250,9 +297,15 @@ impl RecordSink for ToldArchive<'_> {
 #[derive(Drop)]
 pub struct ToldOutput<'r> {
     rt: &'r HostRuntime,
+    path: &'r str,
     output: RefCell<ContinuedOutput<DiskFiles<'r>>>,
     numbers: LastNumbers,
     moment: &'r Moment,
+    lock: HeldLock,
+    /// When it was looked last whether the path of the lock still names it.
+    looked: LookTime,
+    /// Why the file is not locked any more.
+    unlocked: Option<io::Error>,
     failures: u64,
 }
 
@@ -264,13 +317,18 @@ pub fn output_at<'r, 'a: 'r>(
     named: Vec<FileLength>,
     numbers: LastNumbers,
     moment: &'r Moment,
+    lock: HeldLock,
 ) -> ToldOutput<'r> {
     let files = files_at(rt, FilePlace::At(path), 0, Some(named), Unnamed::Kept);
     ToldOutput {
         rt,
+        path,
         output: RefCell::new(ContinuedOutput::new(files)),
         numbers,
         moment,
+        lock,
+        looked: LookTime::new(milliseconds(rt)),
+        unlocked: None,
         failures: 0,
     }
 }
@@ -280,6 +338,22 @@ impl ToldOutput<'_> {
     pub fn take_reason(&mut self) -> Option<io::Error> {
         let failure = self.output.get_mut().take_failure()?;
         Some(failure.reason)
+    }
+
+    /// Why the file is not locked any more, if that ended the reading.
+    pub fn take_unlocked(&mut self) -> Option<io::Error> {
+        self.unlocked.take()
+    }
+
+    /// Looks once a second whether the lock still holds.
+    fn renew_lock(&mut self)
+        ensures { self.new.failures ≡ self.old.failures }
+    {
+        if self.looked.is_due(milliseconds(self.rt)) {
+            if let Err(reason) = self.lock.renew(self.rt) {
+                self.unlocked = Some(reason);
+            }
+        }
     }
 }
 
@@ -337,6 +411,8 @@ impl Write for WholeFile {
 
 /// Puts a record into a file, as into an archive, and answers as well whether that was torn.
 fn put_one(
+    rt: &HostRuntime,
+    path: &str,
     output: &mut ContinuedOutput<DiskFiles<'_>>,
     packet: &GivenPacket<'_>,
     is_return: bool,
@@ -346,7 +422,8 @@ fn put_one(
         output.return_to_begin();
     }
     let put = output.put(packet.record());
-    if output.take_short() {
+    if let Some(file) = output.take_short() {
+        tell_short(rt, FilePlace::At(path), &file);
         moment.hurry();
     }
     let torn = output.take_torn();
@@ -363,12 +440,18 @@ impl RecordSink for ToldOutput<'_> {
     ghost empty_writes = { λ _. 0 };
 
     fn begin(&mut self) {
+        self.renew_lock();
         self.output.get_mut().begin();
     }
 
     fn put(&mut self, packet: &GivenPacket<'_>) -> Result<(), SinkFault> {
+        if self.unlocked.is_some() {
+            self.failures = self.failures.wrapping_add(1);
+            return Err(SinkFault::Write);
+        }
         let is_return = self.numbers.note(packet, self.moment.connection());
-        let (put, torn) = put_one(self.output.get_mut(), packet, is_return, self.moment);
+        let output = self.output.get_mut();
+        let (put, torn) = put_one(self.rt, self.path, output, packet, is_return, self.moment);
         if let Some(path) = torn {
             tell_torn(self.rt, path.as_str());
         }

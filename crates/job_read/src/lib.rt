@@ -12,6 +12,7 @@ mod hearing;
 mod inlet;
 mod keep_time;
 mod line;
+mod locks;
 mod moment;
 mod notices;
 mod part_texts;

@@ -2,7 +2,7 @@
 ghost use Rattle.std.specs.Prelude.{◌≡◌, is_some};
 ghost use Rattle.job_read.specs.Asking.{is_told};
 
-use crate::archiving::{Lasting, WholeFile, archive_at, at_archive, mend_end, output_at};
+use crate::archiving::{Lasting, WholeFile, archive_at, at_archive, mend_end, output_at, unlocked};
 use crate::asking::Renewal;
 use crate::connections::ServersInTurn;
 use crate::endings::{TransferFault, goes_on};
@@ -12,7 +12,7 @@ use crate::moment::Moment;
 use crate::patience::{Patience, pause, silence_between, time_limit};
 use crate::places::Places;
 use crate::returns::LastNumbers;
-use crate::states::{SameFile, StateFile, StateKeeper, locked_output};
+use crate::states::{SameFile, StateFile, StateKeeper, locked_output, refused_at};
 use crate::wants::{wants_of, wants_text};
 use crate::windows::Moments;
 use command_line::ReadOptions;
@@ -286,10 +286,12 @@ fn list_and_go_on<'a>(
     let Ok(numbers) = LastNumbers::new(rt.alloc(), &reading.wants, state.before(), false) else {
         return Err(Incident::out_of_memory());
     };
-    let mut records = output_at(rt, path, lengths, numbers, &reading.moment);
+    let mut records = output_at(rt, path, lengths, numbers, &reading.moment, lock);
     let lines = Outer::new(io::writer(rt));
     let read = list_on(rt, reading, Some(state), None, lines, &mut records);
-    drop_file(lock);
+    if let (Err(_), Some(reason)) = (&read, records.take_unlocked()) {
+        return Err(refused_at(path, reason));
+    }
     match read {
         Ok(()) => Ok(()),
         Err(incident) => Err(incident.at_file(path, records.take_reason())),
@@ -321,6 +323,9 @@ fn list_and_archive<'a>(
     let lines = Outer::new(io::writer(rt));
     let read = list_on(rt, reading, state, None, lines, &mut archive);
     let failure = archive.end();
+    if let (Err(_), Some(fault)) = (&read, archive.take_unlocked()) {
+        return Err(unlocked(top, fault));
+    }
     match read {
         Ok(()) => Ok(()),
         Err(incident) => Err(at_archive(incident, failure, top)),

@@ -6,16 +6,17 @@ ghost use Rattle.protocol.specs.declared.reason.Reason.TheVariants.{State};
 use crate::archiving::{Lasting, site_at, site_of};
 use crate::inlet::Inlet;
 use crate::keep_time::{EVERY, KeepTime, keep_time};
+use crate::locks::HeldLock;
 use crate::moment::Moment;
 use crate::patience::Patience;
 use crate::torn::tell_doubled;
 use continued_files::FileLength;
 use disk_files::{FileFailure, ONE_FILE};
-use files::{LockFault, lock_at, milliseconds, place_of, replace, text_in};
+use files::{milliseconds, place_of, replace, text_in};
 use incidents::{Failure, Incident, Place, Site};
 use protocol::reason::Reason;
 use reader_run::{KeepFault, Keeper, RecordSink};
-use reader_state::{KeptState, StateFault, read_doubled, read_state, write_state};
+use reader_state::{KeptState, StateFault, read_doubled, read_state, write_state, wrong_line};
 use slreader::{LastPacket, Tally, Want};
 use std::alloc::{AllocError, Global};
 use std::fs::File;
@@ -35,7 +36,7 @@ pub struct StateFile<'a> {
     /// Another name in the same folder, under which the file is written anew.
     new_path: String,
     /// Locked until the end, so that no other reader goes on after packets that this one is about to pass.
-    _lock: File,
+    lock: HeldLock,
     /// What it said when the reader began.
     before: KeptState,
     text: Vec<u8>,
@@ -47,9 +48,12 @@ impl<'a> StateFile<'a> {
     pub fn open(rt: &HostRuntime, path: &'a str) -> Result<StateFile<'a>, Incident<'a>> {
         let place = match place_of(rt, path) {
             Ok(place) => place,
-            Err(reason) => return Err(unopened(path, reason)),
+            Err(reason) => return Err(refused_at(path, reason)),
         };
-        let lock = locked(rt, place.as_str(), path, "another reader keeps this state")?;
+        let lock = match HeldLock::new(rt, place.as_str(), "another reader keeps this state") {
+            Ok(lock) => lock,
+            Err(reason) => return Err(refused_at(path, reason)),
+        };
         let before = state_at(rt, place.as_str(), path)?;
         match StateFile::of(rt.alloc(), path, place, lock, before) {
             Ok(file) => Ok(file),
@@ -62,7 +66,7 @@ impl<'a> StateFile<'a> {
         alloc: Global,
         path: &'a str,
         place: String,
-        lock: File,
+        lock: HeldLock,
         before: KeptState,
     ) -> Result<StateFile<'a>, AllocError> {
         let new_path = format!(in alloc; "{place}.new")?;
@@ -70,7 +74,7 @@ impl<'a> StateFile<'a> {
             path,
             place,
             new_path,
-            _lock: lock,
+            lock,
             before,
             text: Vec::new(alloc),
         })
@@ -140,6 +144,7 @@ impl<'a> StateFile<'a> {
         wants: &[Want<'_>],
         files: Option<&[FileLength]>,
     ) -> io::Result<()> {
+        self.lock.renew(rt)?;
         let others = others_at(rt, self.place.as_str())?;
         let files = match files {
             Some(files) => files,
@@ -159,33 +164,18 @@ impl<'a> StateFile<'a> {
 }
 
 /// Locks the one file to which a reader with a state adds records, so that no other one counts its own records there.
-pub fn locked_output<'a>(rt: &HostRuntime, path: &'a str) -> Result<File, Incident<'a>> {
-    match place_of(rt, path) {
-        Ok(place) => locked(
+pub fn locked_output<'a>(rt: &HostRuntime, path: &'a str) -> Result<HeldLock, Incident<'a>> {
+    let locked = match place_of(rt, path) {
+        Ok(place) => HeldLock::new(
             rt,
             place.as_str(),
-            path,
             "another reader adds records to this file",
         ),
-        Err(reason) => Err(unopened(path, reason)),
-    }
-}
-
-/// The lock of the file at a place, that a word names: a file beside it. What is said of a file that is locked is that
-/// text.
-fn locked<'a>(
-    rt: &HostRuntime,
-    place: &str,
-    path: &'a str,
-    text: &'static str,
-) -> Result<File, Incident<'a>> {
-    let Ok(name) = format!(in rt.alloc(); "{place}.lock") else {
-        return Err(Incident::out_of_memory());
+        Err(reason) => Err(reason),
     };
-    match lock_at(rt, name.as_str()) {
+    match locked {
         Ok(lock) => Ok(lock),
-        Err(LockFault::Busy) => Err(unopened(path, io::Error::new(ErrorKind::ResourceBusy, text))),
-        Err(LockFault::Refused(reason)) => Err(unopened(path, reason)),
+        Err(reason) => Err(refused_at(path, reason)),
     }
 }
 
@@ -239,7 +229,7 @@ fn invalid() -> Failure
 }
 
 /// Why a state, that a word names, was not opened.
-fn unopened<'a>(path: &'a str, reason: io::Error) -> Incident<'a> {
+pub fn refused_at<'a>(path: &'a str, reason: io::Error) -> Incident<'a> {
     unread().by_system(Place::File(path), reason)
 }
 
@@ -248,7 +238,7 @@ fn state_at<'a>(rt: &HostRuntime, place: &str, path: &'a str) -> Result<KeptStat
     match fs::open(rt, place) {
         Ok(file) => state_in(rt, file, path),
         Err(reason) if reason.kind() == ErrorKind::NotFound => Ok(KeptState::new(rt.alloc())),
-        Err(reason) => Err(unopened(path, reason)),
+        Err(reason) => Err(refused_at(path, reason)),
     }
 }
 
@@ -256,7 +246,7 @@ fn state_at<'a>(rt: &HostRuntime, place: &str, path: &'a str) -> Result<KeptStat
 fn state_in<'a>(rt: &HostRuntime, file: File, path: &'a str) -> Result<KeptState, Incident<'a>> {
     let text = match text_in(rt, file) {
         Ok(text) => text,
-        Err(reason) => return Err(unopened(path, reason)),
+        Err(reason) => return Err(refused_at(path, reason)),
     };
     match said_in(rt.alloc(), text.as_slice()) {
         Ok((state, is_doubled)) => {
@@ -266,7 +256,15 @@ fn state_in<'a>(rt: &HostRuntime, file: File, path: &'a str) -> Result<KeptState
             Ok(state)
         }
         Err(StateFault::OutOfMemory) => Err(Incident::out_of_memory()),
-        Err(StateFault::Invalid) => Err(invalid().in_file(path)),
+        Err(StateFault::Invalid) => Err(invalid_at(rt.alloc(), path, text.as_slice())),
+    }
+}
+
+/// What is said of a file whose text is not a state: at the line that is wrong.
+fn invalid_at<'a>(alloc: Global, path: &'a str, text: &[u8]) -> Incident<'a> {
+    match wrong_line(alloc, text) {
+        Some(number) => invalid().at(Place::Line { path, number }),
+        None => invalid().in_file(path),
     }
 }
 

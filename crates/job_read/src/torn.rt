@@ -1,4 +1,7 @@
-//! What is told of a file that ended inside a record, and of a state with several lines of one station.
+//! What is told of a file that ended inside a record or has fewer records than were counted, and of a state with several
+//! lines of one station.
+use continued_files::ShortFile;
+use disk_files::FilePlace;
 use shown_lines::ShownLine;
 use std::fmt::{self, Display, Formatter, Write};
 
@@ -19,6 +22,51 @@ impl Display for TornFile<'_> {
 /// Tells that the torn end of a file was put aside.
 pub fn tell_torn(rt: &HostRuntime, path: &str) {
     let _ = eprintln!(rt; "{}", TornFile { path });
+}
+
+/// A file that has fewer records than were counted.
+#[derive(Clone, Copy, Drop)]
+struct ShortenedFile<'a> {
+    /// The folder that it lies below, if it is not named by its path.
+    top: Option<&'a str>,
+    name: &'a str,
+    count: u64,
+    kept: u64,
+}
+
+impl Display for ShortenedFile<'_> {
+    fn fmt<W: Write>(&self, f: &mut Formatter<W>) -> fmt::Result {
+        let mut line = ShownLine::new(f);
+        let (name, count, kept) = (self.name, self.count, self.kept);
+        match self.top {
+            Some(top) => write!(
+                line,
+                "seedlinkd: {count} records in {top}/{name}, where {kept} were counted"
+            ),
+            None => write!(
+                line,
+                "seedlinkd: {count} records in {name}, where {kept} were counted"
+            ),
+        }
+    }
+}
+
+/// Tells that a file below a folder, or at a path, has fewer records than were counted.
+pub fn tell_short(rt: &HostRuntime, place: FilePlace<'_>, file: &ShortFile) {
+    let (top, name) = match place {
+        FilePlace::Below(top) => (Some(top), file.name.as_str()),
+        FilePlace::At(path) => (None, path),
+    };
+    let (count, kept) = (file.count, file.kept);
+    let _ = eprintln!(rt;
+        "{}",
+        ShortenedFile {
+            top,
+            name,
+            count,
+            kept
+        }
+    );
 }
 
 /// A state with several lines of one station.

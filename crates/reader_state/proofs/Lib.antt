@@ -6,3 +6,4 @@ pub mod FileLemmas
 pub mod ApartLemmas
 pub mod PartLemmas
 pub mod EachLemmas
+mod OtherLemmas

@@ -2,7 +2,9 @@
 -- of the last packet, in six hexadecimal digits, and END the end of its record in units of 0.0001 s since 1970, or `-`.
 -- If the reader writes files, a line `#` follows and then one for each file, NAME COUNT: the first COUNT records of the
 -- file are counted by the numbers above.
-use Rattle.std.specs.Prelude.{ℕ, ℤ, List, [], ◌∷◌, ◌++◌, is_none, Bool, ◌&&◌, if◌then◌else◌}
+use Rattle.std.specs.Prelude.{ℕ, ℤ, List, [], ◌∷◌, ◌++◌, is_none, not, Bool, ◌&&◌, if◌then◌else◌}
+use Rattle.std.specs.List.{list_any}
+use Rattle.std.specs.Str.{bytes_eq}
 use Rattle.std.specs.Prelude.{Option, Some, None}
 use Rattle.std.specs.Prelude.{◌≡◌, ◌≢◌, ◌<◌, ◌^◌, true}
 use Rattle.std.specs.Fmt.{decimal, signed_decimal}
@@ -117,8 +119,18 @@ abbrev pub are_apart : List LastValue → Bool
 are_apart [] = true
 are_apart (l ∷ ls) = is_of_another ls l && are_apart ls
 
+-- no length of these is of that file
+abbrev pub is_of_other : List LengthValue → LengthValue → Bool
+is_of_other fs f = not (list_any (λ g. bytes_eq g.name f.name) fs)
+
+-- No two of them are of one file.
+abbrev pub are_of_others : List LengthValue → Bool
+are_of_others [] = true
+are_of_others (f ∷ fs) = is_of_other fs f && are_of_others fs
+
 -- a state that can be read back
 pub record IsState (s : StateValue) : Type 0 where
   pub lasts : AreLast s.lasts
   pub apart : are_apart s.lasts ≡ true
   pub files : AreLengths s.files
+  pub named : are_of_others s.files ≡ true

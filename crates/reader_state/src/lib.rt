@@ -4,11 +4,15 @@
 #![tactic(auto)]
 
 mod files;
+mod keeping;
 mod line;
 mod reading;
 mod state;
 mod writing;
+mod wrong;
 
+pub use keeping::{MemoryPlace, StatePlace, UnkeptState, keep_state, read_any};
 pub use reading::{StateFault, read_doubled, read_state};
 pub use state::KeptState;
 pub use writing::write_state;
+pub use wrong::wrong_line;

@@ -9,7 +9,7 @@ ghost use Rattle.slreader.specs.Tallies.{ReachedValue};
 ghost use Rattle.slreader.specs.Lasts.{LastValue};
 ghost use Rattle.std.specs.Prelude.{true};
 ghost use Rattle.reader_state.specs.States.{AreLast, IsEnd, IsLast, IsState, Lacks, StateValue, are_apart, end_text};
-ghost use Rattle.reader_state.specs.States.{files_text};
+ghost use Rattle.reader_state.specs.States.{are_of_others, files_text};
 ghost use Rattle.reader_state.specs.States.{state_text, text_of, words_of};
 ghost use Rattle.reader_state.specs.declared.reading.StateFault.TheVariants.{OutOfMemory};
 
@@ -118,7 +118,7 @@ fn words_in(line: &[u8]) -> Option<Words<'_>>
 }
 
 /// The last packet that a line tells of. It fails where the line has fewer words, or others.
-fn last_of(alloc: Global, line: &[u8]) -> Result<LastPacket, StateFault>
+pub(crate) fn last_of(alloc: Global, line: &[u8]) -> Result<LastPacket, StateFault>
     ensures { (l : LastValue) → IsLast l → line.now ≡ words_of l
         → MatchResult result (λ last. last ≡ l) (λ fault. fault ≡ OutOfMemory) }
 {
@@ -215,6 +215,7 @@ fn parts_of(bytes: &[u8]) -> Halves<'_>
 /// What a text says, in whatever form it may be.
 fn state_in(alloc: Global, bytes: &[u8]) -> Result<KeptState, StateFault>
     ensures apart { IfOk result (λ state. are_apart state.lasts ≡ true) }
+    ensures named { IfOk result (λ state. are_of_others state.files ≡ true) }
     ensures back { (s : StateValue) → IsState s → bytes.now ≡ state_text s
         → MatchResult result (λ state. state ≡ s) (λ fault. fault ≡ OutOfMemory) }
 {
@@ -227,13 +228,15 @@ fn state_in(alloc: Global, bytes: &[u8]) -> Result<KeptState, StateFault>
 /// Reads the text of a state, exactly as it is written: for each station a line `NET STA NUMBER END`, with codes of
 /// 1 to 2 and 1 to 5 bytes of `A` to `Z` and `0` to `9`, the number in six hexadecimal digits in upper case, and the
 /// end in decimal ticks of 0.0001 s since 1970 or `-`. No two of them are of one station. If there are lengths of
-/// files, a line `#` follows, and then for each of them a line `NAME COUNT`, with the count in decimal digits.
+/// files, a line `#` follows, and then for each of them a line `NAME COUNT`, with the count in decimal digits. No two of
+/// them are of one file.
 ///
 /// It fails with Invalid where the text is none that is written, and with OutOfMemory only where memory lacks. What was
 /// written is read back.
 pub fn read_state(alloc: Global, bytes: &[u8]) -> Result<KeptState, StateFault>
     ensures text { IfOk result (λ state. bytes.now ≡ state_text state) }
     ensures apart { IfOk result (λ state. are_apart state.lasts ≡ true) }
+    ensures named { IfOk result (λ state. are_of_others state.files ≡ true) }
     ensures back { (s : StateValue) → IsState s → bytes.now ≡ state_text s
         → MatchResult result (λ state. state ≡ s) (λ fault. fault ≡ OutOfMemory) }
 {
@@ -279,6 +282,7 @@ fn lowest_each(alloc: Global, lasts: &[LastPacket]) -> Result<Vec<LastPacket>, A
 /// lowest number of a station counts: records that come again are passed over.
 pub fn read_doubled(alloc: Global, bytes: &[u8]) -> Result<KeptState, StateFault>
     ensures apart { IfOk result (λ state. are_apart state.lasts ≡ true) }
+    ensures named { IfOk result (λ state. are_of_others state.files ≡ true) }
 {
     let parts = parts_of(bytes);
     let lasts = lasts_in(alloc, parts.front)?;

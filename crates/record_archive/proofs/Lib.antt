@@ -1,2 +1,3 @@
 mod PlaceLemmas
 mod PutLemmas
+mod ApartLemmas

@@ -16,6 +16,10 @@ pub record Put : Type 0 where
   pub file : List ℕ
   pub bytes : List ℕ
 
+-- the path of the file: its folder, `/`, and its name
+abbrev pub path_of : Put → List ℕ
+path_of p = p.folder ++ 47 ∷ p.file
+
 -- The record is put into the file of its stream and of the day in which it starts.
 pub record IsPut (stations : List CodesValue) (r : List ℕ) (p : Put) : Type 0 where
   pub facts : Facts
@@ -49,6 +53,10 @@ pub data ArePut (stations : List CodesValue) : List (List ℕ) → List Put → 
       → ArePut stations rs ps → IsPut stations r p → ArePut stations (rs ++ r ∷ []) (ps ++ p ∷ [])
   One_unplaced : {rs : List (List ℕ)} {ps : List Put} {r : List ℕ}
       → ArePut stations rs ps → IsUnplaced stations r → ArePut stations (rs ++ r ∷ []) ps
+
+-- The record is put into its file, of which more is known, or it has none.
+abbrev pub Places : List CodesValue → (Put → Type 0) → List ℕ → Type 0
+Places stations Stands r = ((p : Put) × IsPut stations r p × Stands p) ⊎ IsUnplaced stations r
 
 -- Folders that tell what is put into them tell one more.
 abbrev pub PutsOne : Option (List Put) → Option (List Put) → Put → Type 0

@@ -3,3 +3,4 @@ pub mod Stations
 pub mod Places
 pub mod Archives
 pub mod Stores
+pub mod Apart

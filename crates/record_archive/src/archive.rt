@@ -3,19 +3,22 @@
 //! Files of an archive are put on the disk only for a state. Without one the system does it when it likes. With one
 //! each file that was added to has to be: those that are kept open when the state is written, each once, and those that
 //! were let go before, when that was.
-ghost use Rattle.std.specs.Prelude.{◌≡◌, ◌∷◌, [], ℕ, List, OnErr, OnOk};
+ghost use Rattle.std.specs.Prelude.{◌≡◌, ◌∷◌, [], ℕ, IfOk, List, OnErr, OnOk};
+ghost use Rattle.std.specs.Str.{IsUtf8};
 ghost use Rattle.std.specs.Result.{result_ok};
 ghost use Rattle.protocol.specs.Record.{header_of};
 ghost use Rattle.continued_files.specs.Files.{MakesSafe};
-ghost use Rattle.continued_files.specs.Known.{kept_by, known_at, length_of, tail_before};
+ghost use Rattle.continued_files.specs.Known.{kept_by, known_at, length_of, length_told, tail_before};
+ghost use Rattle.continued_files.specs.Runs.{Moment, Numbers, after_return};
+ghost use Rattle.continued_files.specs.Steps.{IsAt, SyncsStep, files_value};
 ghost use Rattle.continued_files.specs.Tails.{all_from};
-ghost use Rattle.record_archive.specs.Archives.{CountsUnplaced, Fails, HoldsMore};
+ghost use Rattle.record_archive.specs.Archives.{CountsUnplaced, Fails, HoldsMore, Places};
 
 use crate::folders::Folders;
 use crate::placing::{ArchiveFault, Placed, put_record};
 use crate::stations::StationCodes;
 use crate::streams::KnownStreams;
-use continued_files::{ContinuedFiles, FileLength, FolderFault, RecordFiles};
+use continued_files::{ContinuedFiles, FileLength, FolderFault, RecordFiles, ShortFile};
 use disk_files::{DiskFiles, FileFailure};
 use mseed_header::Header;
 use std::alloc::Global;
@@ -72,6 +75,8 @@ impl<F: Folders> Archive<F> {
         requires { header.now ≡ result_ok (header_of bytes.now) }
         ensures put { OnOk result (HoldsMore self.old.streams.stations.items (F.puts self.old.folders)
             (F.puts self.new.folders) (bytes.now ∷ [])) }
+        ensures stands { OnOk result (Places self.old.streams.stations.items
+            (F.Stands self.old.folders self.new.folders) bytes.now) }
         ensures refused { OnErr result (F.puts self.new.folders ≡ F.puts self.old.folders) }
         ensures fault { Fails (F.failures self.old.folders) (F.failures self.new.folders) result }
         ensures counted { OnOk result
@@ -91,6 +96,12 @@ impl<F: RecordFiles> Archive<ContinuedFiles<F>> {
     /// Makes all records last that were put so far, and then tells how many records of each file don't come again.
     pub fn last(&mut self) -> Result<Vec<FileLength>, FolderFault>
         ensures safe { OnOk result (MakesSafe (F.records self.new.folders.files) (F.safe self.new.folders.files)) }
+        ensures step { OnOk result (SyncsStep (files_value (F.records self.old.folders.files) (F.safe self.old.folders.files)
+            self.old.folders.all self.old.folders.named.items self.old.folders.unnamed)
+            (files_value (F.records self.new.folders.files) (F.safe self.new.folders.files)
+            self.new.folders.all self.new.folders.named.items self.new.folders.unnamed)) }
+        ensures lengths { IfOk result (λ lengths. (name : List ℕ) → IsUtf8 name → length_of lengths.items name
+            ≡ length_told (known_at self.new.folders.all name) (length_of self.new.folders.named.items name)) }
     {
         self.folders.last()
     }
@@ -100,14 +111,18 @@ impl<F: RecordFiles> Archive<ContinuedFiles<F>> {
         ensures tails { (name : List ℕ) (count : ℕ) → tail_before (known_at self.new.folders.all name)
             (kept_by (length_of self.new.folders.named.items name) self.new.folders.unnamed count) count
             ≡ all_from 0 count }
+        ensures step { (m : Moment) (name : List ℕ) (comes : Numbers) → IsAt (files_value (F.records self.old.folders.files) (F.safe self.old.folders.files)
+            self.old.folders.all self.old.folders.named.items self.old.folders.unnamed) name m
+            → IsAt (files_value (F.records self.new.folders.files) (F.safe self.new.folders.files)
+            self.new.folders.all self.new.folders.named.items self.new.folders.unnamed) name (after_return m comes) }
         ensures same { (self.new.folders.files ≡ self.old.folders.files) × (self.new.streams ≡ self.old.streams)
             × (self.new.unplaced ≡ self.old.unplaced) }
     {
         self.folders.return_to_begin();
     }
 
-    /// Whether a file had fewer records than the state counts, once: then a state is to be kept at once.
-    pub fn take_short(&mut self) -> bool
+    /// A file that had fewer records than were counted, once: then a state is to be kept at once.
+    pub fn take_short(&mut self) -> Option<ShortFile>
         ensures { (self.new.folders.files ≡ self.old.folders.files) × (self.new.streams ≡ self.old.streams)
             × (self.new.unplaced ≡ self.old.unplaced) }
     {

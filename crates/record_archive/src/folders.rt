@@ -13,6 +13,9 @@ pub trait Folders {
     // All records that were put, in order, if they are told.
     ghost puts: { Self → Option (List Put) };
 
+    // What else is known once a record was put.
+    ghost Stands: { Self → Self → Put → Type 0 };
+
     // How many calls failed.
     ghost failures: { Self → ℕ };
 
@@ -20,6 +23,8 @@ pub trait Folders {
     /// that fails puts nothing.
     fn put(&mut self, place: &Place, bytes: &[u8; 512]) -> Result<(), FolderFault>
         ensures put { OnOk result (PutsOne (puts self.old) (puts self.new)
+            (record { folder = place.now.folder; file = place.now.file; bytes = bytes.now })) }
+        ensures stands { OnOk result (Stands self.old self.new
             (record { folder = place.now.folder; file = place.now.file; bytes = bytes.now })) }
         ensures refused { OnErr result (PutsNothing (puts self.old) (puts self.new)) }
         ensures failure { CountsFailure (failures self.old) (failures self.new) result };

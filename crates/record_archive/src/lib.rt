@@ -5,6 +5,7 @@
 mod archive;
 mod continued;
 mod folders;
+mod law;
 mod locks;
 mod memory_folders;
 mod path;
@@ -15,6 +16,7 @@ mod streams;
 
 pub use archive::Archive;
 pub use folders::Folders;
+pub use law::are_put_apart;
 pub use locks::{StationLocks, TopFault, lock_stations};
 pub use memory_folders::{MemoryFolders, Stored};
 pub use place::Place;

@@ -1,8 +1,11 @@
 //! The locks of the stations of an archive.
 //!
 //! The lock of an archive is one a station. Files of two stations are never the same, so readers of other stations have
-//! nothing to do with each other.
+//! nothing to do with each other. A lock is one on a file and not on its path: if the folder is moved away, another
+//! reader can lock the one that is made in its place. So it has to be looked, again and again, whether the paths still
+//! name the files.
 use crate::stations::StationCodes;
+use disk_files::{is_named, make_folders};
 use std::alloc::Global;
 use std::fs::{self, File, OpenOptions, TryLockError};
 use std::io::{self, ErrorKind};
@@ -16,11 +19,18 @@ pub enum TopFault {
     Locked,
 }
 
+/// A file that is locked.
+#[derive(Drop)]
+struct Lock {
+    path: String,
+    file: File,
+}
+
 /// Locks on files below a folder, each of which says that records of a station are put there. They are held until they
 /// are let go.
 #[derive(Drop)]
 pub struct StationLocks {
-    _files: Vec<File>,
+    all: Vec<Lock>,
 }
 
 /// The path of the file that is locked while records of a station are put below a folder.
@@ -72,7 +82,7 @@ fn lock_one(
     top: &str,
     before: &[StationCodes],
     codes: &StationCodes,
-    files: &mut Vec<File>,
+    all: &mut Vec<Lock>,
 ) -> Result<(), TopFault> {
     if before.iter().any(|other| other.is_same(codes)) {
         return Ok(());
@@ -81,9 +91,17 @@ fn lock_one(
         return Err(no_memory());
     };
     let file = locked_at(rt, path.as_str())?;
-    match files.push(file) {
+    match all.push(Lock { path, file }) {
         Ok(()) => Ok(()),
         Err(_) => Err(no_memory()),
+    }
+}
+
+/// Makes a folder, if it is not there.
+fn made(rt: &HostRuntime, top: &str) -> Result<(), TopFault> {
+    match make_folders(rt, top) {
+        Ok(()) => Ok(()),
+        Err(reason) => Err(TopFault::Unopened(reason)),
     }
 }
 
@@ -95,12 +113,32 @@ pub fn lock_stations(
     top: &str,
     stations: &[StationCodes],
 ) -> Result<StationLocks, TopFault> {
-    if let Err(reason) = fs::create_dir_all(rt, top) {
-        return Err(TopFault::Unopened(reason));
-    }
-    let mut files = Vec::new(alloc);
+    made(rt, top)?;
+    let mut all = Vec::new(alloc);
     for (place, codes) in stations.iter().enumerate() {
-        lock_one(rt, alloc, top, &stations[..place], codes, &mut files)?;
+        lock_one(rt, alloc, top, &stations[..place], codes, &mut all)?;
     }
-    Ok(StationLocks { _files: files })
+    Ok(StationLocks { all })
+}
+
+impl Lock {
+    /// Locks what stands there now, if the path does not name the file any more that is locked.
+    fn renew(&mut self, rt: &HostRuntime, top: &str) -> Result<(), TopFault> {
+        if !is_named(rt, &self.file, self.path.as_str()) {
+            made(rt, top)?;
+            self.file = locked_at(rt, self.path.as_str())?;
+        }
+        Ok(())
+    }
+}
+
+impl StationLocks {
+    /// Locks what stands there now in place of each file that its path does not name any more, as after the folder was
+    /// moved away. It fails if somebody else has locked that.
+    pub fn renew(&mut self, rt: &HostRuntime, top: &str) -> Result<(), TopFault> {
+        for lock in &mut self.all {
+            lock.renew(rt, top)?;
+        }
+        Ok(())
+    }
 }

@@ -64,6 +64,8 @@ impl MemoryFolders {
 impl Folders for MemoryFolders {
     ghost puts = { λ f. Some (map stored f.all.items) };
 
+    ghost Stands = { λ _ _ _. Unit {0} };
+
     ghost failures = { λ f. f.failures };
 
     fn put(&mut self, place: &Place, bytes: &[u8; 512]) -> Result<(), FolderFault>

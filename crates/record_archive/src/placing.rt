@@ -2,7 +2,7 @@
 ghost use Rattle.std.specs.Prelude.{◌≡◌, ◌∷◌, [], Ok, OnErr, OnOk};
 ghost use Rattle.std.specs.Result.{result_ok};
 ghost use Rattle.protocol.specs.Record.{header_of};
-ghost use Rattle.record_archive.specs.Archives.{Fails, HoldsMore, IsPlaced, IsUnplaced};
+ghost use Rattle.record_archive.specs.Archives.{Fails, HoldsMore, IsPlaced, IsUnplaced, Places};
 ghost use Rattle.record_archive.specs.declared.placing.Placed.TheVariants.{InFile, Unplaced};
 
 use crate::folders::Folders;
@@ -39,6 +39,8 @@ fn put_read<F: Folders>(
     ensures stations { streams.new.stations ≡ streams.old.stations }
     ensures put { OnOk result
         (HoldsMore streams.old.stations.items (F.puts folders.old) (F.puts folders.new) (bytes.now ∷ [])) }
+    ensures stands { OnOk result
+        (Places streams.old.stations.items (F.Stands folders.old folders.new) bytes.now) }
     ensures placed { result ≡ Ok InFile → IsPlaced streams.old.stations.items bytes.now }
     ensures unplaced { result ≡ Ok Unplaced → IsUnplaced streams.old.stations.items bytes.now }
     ensures refused { OnErr result (F.puts folders.new ≡ F.puts folders.old) }
@@ -67,6 +69,8 @@ pub(crate) fn put_record<F: Folders>(
     ensures stations { streams.new.stations ≡ streams.old.stations }
     ensures put { OnOk result
         (HoldsMore streams.old.stations.items (F.puts folders.old) (F.puts folders.new) (bytes.now ∷ [])) }
+    ensures stands { OnOk result
+        (Places streams.old.stations.items (F.Stands folders.old folders.new) bytes.now) }
     ensures placed { result ≡ Ok InFile → IsPlaced streams.old.stations.items bytes.now }
     ensures unplaced { result ≡ Ok Unplaced → IsUnplaced streams.old.stations.items bytes.now }
     ensures refused { OnErr result (F.puts folders.new ≡ F.puts folders.old) }

@@ -1,4 +1,4 @@
-use Rattle.std.proofs.Common.{Ok, ap, refl, subst, sym}
+use Rattle.std.proofs.Common.{Ok, ap, inl, inr, refl, subst, sym}
 use Rattle.record_archive.specs.Archives.{IsPut, IsUnplaced, Put}
 use Rattle.record_archive.specs.Places.{HasPlace, PlaceValue}
 use Rattle.record_archive.proofs.PutLemmas.{held-put, held-same}
@@ -54,3 +54,9 @@ returns-in-Ok-clause-put g c =
 
 pub returns-in-Ok-clause-placed : goal.returns-in-Ok-clause-placed
 returns-in-Ok-clause-placed g c = λ e. (put_of g c, is_put g c)
+
+pub returns-in-Ok-clause-stands : goal.returns-in-Ok-clause-stands
+returns-in-Ok-clause-stands g c = inl (put_of g c, is_put g c, c.in-Ok.ensures.stands)
+
+pub returns-in-Ok-None-clause-stands : goal.returns-in-Ok-None-clause-stands
+returns-in-Ok-None-clause-stands g c = inr (unplaced g c)

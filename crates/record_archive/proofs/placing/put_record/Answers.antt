@@ -1,5 +1,5 @@
 -- A record that is not valid has no place.
-use Rattle.std.proofs.Common.{◌∙◌, sym}
+use Rattle.std.proofs.Common.{◌∙◌, inr, sym}
 use Rattle.record_archive.proofs.PutLemmas.{held-same, invalid-record, valid-record}
 use Rattle.record_archive.proofs.placing.put_record.Goals as goal
 
@@ -14,3 +14,7 @@ returns-in-None-clause-put g c =
 pub returns-in-None-clause-unplaced : goal.returns-in-None-clause-unplaced
 returns-in-None-clause-unplaced g c = λ e.
     invalid-record c.args.streams.now.stations.items c.args.bytes.now (sym c.requires ∙ c.in-None.is)
+
+pub returns-in-None-clause-stands : goal.returns-in-None-clause-stands
+returns-in-None-clause-stands g c =
+    inr (invalid-record c.args.streams.now.stations.items c.args.bytes.now (sym c.requires ∙ c.in-None.is))

@@ -1,19 +1,22 @@
-use Rattle.std.proofs.Common.{◌≡◌, ◌∙◌, Err, Ok, OnOk, Result, arith}
-use Rattle.std.proofs.lemmas.Map.Text.{text_keys}
-use Rattle.std.specs.BTreeMap.{get_by_text}
-use Rattle.continued_files.specs.Known.{KnowsOthers}
+use Rattle.std.proofs.Common.{Err, Ok, OnOk, Result, ap}
+use Rattle.continued_files.specs.Known.{length_of}
+use Rattle.continued_files.proofs.StepLemmas.{hands}
 use Rattle.continued_files.proofs.continued.ContinuedFiles.hand.Goals as goal
 
-always : {A E : Type 0} (r : Result A E) (P : Type 0) → P → OnOk r P
-always (Ok x) P p = p
-always (Err e) P p = tt
+both : {A E : Type 0} (r : Result A E) (P Q R : Type 0) → (P → Q → R) → OnOk r P → OnOk r Q → OnOk r R
+both (Ok x) P Q R f p q = f p q
+both (Err e) P Q R f p q = tt
 
-pub returns-in-Some-clause-other_tails : goal.returns-in-Some-clause-other_tails
-returns-in-Some-clause-other_tails g c =
-    always c.hand.result
-    (KnowsOthers c.args.name.now c.args.self.now.all (c.get_mut.follows.lender c.hand.new.self))
-    (λ other differs.
-    let was = c.in_ok-know.ensures.others other differs in
-    let stays : get_by_text (c.get_mut.follows.lender c.hand.new.self) other ≡ get_by_text c.know.new.self.all other =
-    grind (arith, text_keys) in
-    stays ∙ was)
+pub returns-else-is_err-clause-step : goal.returns-else-is_err-clause-step
+returns-else-is_err-clause-step g c =
+    let h = c.offer-handed.ensures in
+    both c.offer-handed.result _ _ _
+    (λ offers known. hands _ _ c.args.name.now c.args.bytes.now offers
+    (record {
+      records = h.others;
+      safe = h.safe;
+      known = known;
+      named = λ other. ap (λ v. length_of v.items other) h.rest.0;
+      unnamed = h.rest.1;
+    }))
+    h.offers h.other_tails

@@ -2,7 +2,7 @@
 use Rattle.std.proofs.Common.{◌≡◌, ◌++◌, List, length}
 use Rattle.continued_files.specs.Lengths.{LengthValue}
 use Rattle.reader_state.specs.States.{AreLengths, files_text}
-use Rattle.reader_state.proofs.files.files_in.Given as goal
+use Rattle.reader_state.proofs.files.lengths_in.Given as goal
 
 abbrev pub invariant-lines : goal.invariant-lines
 invariant-lines l = (fs : List LengthValue) → AreLengths fs → l.bytes ≡ files_text fs

@@ -4,7 +4,7 @@ use Rattle.std.proofs.Common.{Err}
 use Rattle.std.proofs.lemmas.Result.{err_from_is_err_and}
 use Rattle.std.specs.Prelude.{MatchOption, Option}
 use Rattle.reader_state.proofs.FileLemmas.{file-first, no-file}
-use Rattle.reader_state.proofs.files.files_in.Goals as goal
+use Rattle.reader_state.proofs.files.lengths_in.Goals as goal
 
 -- nothing was cut off
 back-none : {X : Type 0} → (r : Option X) (P : X → Type 0) → MatchOption r ⊥ P → ((x : X) → r ≡ Some x → ⊥) → ⊥

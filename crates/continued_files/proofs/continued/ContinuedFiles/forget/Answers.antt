@@ -1,0 +1,1 @@
+use Rattle.continued_files.proofs.continued.ContinuedFiles.forget.Goals as goal
