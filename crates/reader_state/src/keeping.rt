@@ -1,7 +1,7 @@
 //! Where a state is kept, and how it is written anew there.
 ghost use Rattle.std.specs.Prelude.{◌≡◌, ℕ, List, IfOk, OnErr, OnOk, Some, option_map};
 ghost use Rattle.std.specs.declared.option.Option.{Option};
-ghost use Rattle.reader_state.specs.Keeping.{KeepsState};
+ghost use Rattle.reader_state.specs.Keeping.{KeepsState, files_after};
 ghost use Rattle.reader_state.specs.States.{IsState, StateValue, are_apart, state_text};
 ghost use Rattle.std.specs.Prelude.{true};
 
@@ -72,6 +72,16 @@ fn state_at<S: StatePlace>(alloc: Global, place: &mut S) -> Result<KeptState, Un
     }
 }
 
+/// The lengths of the files that are written, or those that were kept before if none are.
+fn files_or<'a>(files: &'a Option<Vec<FileLength>>, before: &'a KeptState) -> &'a [FileLength]
+    ensures { result.now ≡ files_after (option_map (λ fs. fs.items) files.now) before.now.files }
+{
+    match files {
+        Some(files) => files.as_slice(),
+        None => before.files(),
+    }
+}
+
 /// The state is kept at a place: the last packet of each station of the wants, those of other stations as the place has
 /// them by now, and the lengths of files, or those that the place has if no files are written. If it fails, the place
 /// has what it had.
@@ -87,10 +97,7 @@ pub fn keep_state<S: StatePlace>(
     ensures stays { OnErr result (S.text place.new ≡ S.text place.old) }
 {
     let before = state_at(alloc, place)?;
-    let files = match files {
-        Some(files) => files.as_slice(),
-        None => before.files(),
-    };
+    let files = files_or(files, &before);
     let mut text = Vec::new(alloc);
     let Ok(()) = write_state(alloc, &mut text, tally, wants, before.lasts(), files) else {
         return Err(UnkeptState::OutOfMemory);
