@@ -1,5 +1,7 @@
 //! Records that are read into an archive.
-ghost use Rattle.std.specs.Prelude.{◌≡◌, None};
+ghost use Rattle.std.specs.Prelude.{◌≡◌, IfOk, List, None, option_map};
+ghost use Rattle.std.specs.declared.option.Option.{Option};
+ghost use Rattle.continued_files.specs.Lengths.{LengthValue};
 
 use crate::locks::{HeldLock, LookTime};
 use crate::moment::Moment;
@@ -471,12 +473,18 @@ impl RecordSink for ToldOutput<'_> {
 
 /// Where records are written, as far as they can be made to last there.
 pub trait Lasting {
+    // These lengths are those of the files once all is made to last.
+    ghost Lasts: { Self → Option (List LengthValue) → Type 0 };
+
     /// Makes all records last that were written so far, and then tells how many records of each file don't come again;
     /// None where no files are written.
-    fn make_last(&self) -> Result<Option<Vec<FileLength>>, FileFailure>;
+    fn make_last(&self) -> Result<Option<Vec<FileLength>>, FileFailure>
+        ensures { IfOk result (λ lengths. Lasts self.now (option_map (λ fs. fs.items) lengths)) };
 }
 
 impl Lasting for Nowhere {
+    ghost Lasts = { λ _ lengths. lengths ≡ None };
+
     fn make_last(&self) -> Result<Option<Vec<FileLength>>, FileFailure> {
         Ok(None)
     }
@@ -484,6 +492,8 @@ impl Lasting for Nowhere {
 
 /// What was written has been handed on.
 impl<S> Lasting for Gathered<S> {
+    ghost Lasts = { λ _ lengths. lengths ≡ None };
+
     fn make_last(&self) -> Result<Option<Vec<FileLength>>, FileFailure> {
         Ok(None)
     }
@@ -501,6 +511,8 @@ fn unlasting(failure: Option<FileFailure>) -> FileFailure {
 }
 
 impl Lasting for ToldArchive<'_> {
+    ghost Lasts = { λ _ _. Unit {0} };
+
     fn make_last(&self) -> Result<Option<Vec<FileLength>>, FileFailure> {
         let Ok(mut archive) = self.archive.try_borrow_mut() else {
             return Err(unlasting(None));
@@ -513,6 +525,8 @@ impl Lasting for ToldArchive<'_> {
 }
 
 impl Lasting for ToldOutput<'_> {
+    ghost Lasts = { λ _ _. Unit {0} };
+
     fn make_last(&self) -> Result<Option<Vec<FileLength>>, FileFailure> {
         let Ok(mut output) = self.output.try_borrow_mut() else {
             return Err(unlasting(None));

@@ -1,5 +1,5 @@
 //! The file in which a reader keeps how far it is, and when it does.
-ghost use Rattle.std.specs.Prelude.{◌≡◌, None};
+ghost use Rattle.std.specs.Prelude.{◌≡◌, IfOk, None, OnOk, option_map};
 ghost use Rattle.sl_io.specs.Counts.{CountsFailure};
 ghost use Rattle.protocol.specs.declared.reason.Reason.TheVariants.{State};
 
@@ -16,7 +16,9 @@ use files::{milliseconds, place_of, replace, text_in};
 use incidents::{Failure, Incident, Place, Site};
 use protocol::reason::Reason;
 use reader_run::{KeepFault, Keeper, RecordSink};
-use reader_state::{KeptState, StateFault, read_doubled, read_state, write_state, wrong_line};
+use reader_state::{
+    KeptState, StateFault, StatePlace, UnkeptState, keep_state, read_any, wrong_line,
+};
 use slreader::{LastPacket, Tally, Want};
 use std::alloc::{AllocError, Global};
 use std::fs::File;
@@ -142,24 +144,50 @@ impl<'a> StateFile<'a> {
         rt: &HostRuntime,
         tally: &Tally,
         wants: &[Want<'_>],
-        files: Option<&[FileLength]>,
+        files: &Option<Vec<FileLength>>,
     ) -> io::Result<()> {
         self.lock.renew(rt)?;
-        let others = others_at(rt, self.place.as_str())?;
-        let files = match files {
-            Some(files) => files,
-            None => others.files(),
-        };
-        let lasts = others.lasts();
-        if write_state(rt.alloc(), &mut self.text, tally, wants, lasts, files).is_err() {
-            return Err(io::Error::from(ErrorKind::OutOfMemory));
-        }
-        replace(
+        let mut place = DiskPlace {
             rt,
-            self.new_path.as_str(),
-            self.place.as_str(),
-            self.text.as_slice(),
-        )
+            path: self.place.as_str(),
+            new_path: self.new_path.as_str(),
+        };
+        match keep_state(rt.alloc(), &mut place, tally, wants, files) {
+            Ok(()) => Ok(()),
+            Err(unkept) => Err(reason_of(unkept)),
+        }
+    }
+}
+
+/// A file with a state, which is written anew under another name.
+#[derive(Clone, Copy, Drop)]
+struct DiskPlace<'p> {
+    rt: &'p HostRuntime,
+    path: &'p str,
+    new_path: &'p str,
+}
+
+impl StatePlace for DiskPlace<'_> {
+    ghost text = { λ _. None };
+
+    fn read(&mut self) -> io::Result<Vec<u8>> {
+        match fs::read(self.rt, self.path) {
+            Err(reason) if reason.kind() == ErrorKind::NotFound => Ok(Vec::new(self.rt.alloc())),
+            read => read,
+        }
+    }
+
+    fn replace(&mut self, more: &[u8]) -> io::Result<()> {
+        replace(self.rt, self.new_path, self.path, more)
+    }
+}
+
+/// What is said of a state that was not kept.
+fn reason_of(unkept: UnkeptState) -> io::Error {
+    match unkept {
+        UnkeptState::Device(reason) => reason,
+        UnkeptState::Invalid => no_state(),
+        UnkeptState::OutOfMemory => io::Error::from(ErrorKind::OutOfMemory),
     }
 }
 
@@ -182,31 +210,6 @@ pub fn locked_output<'a>(rt: &HostRuntime, path: &'a str) -> Result<HeldLock, In
 /// What is said of a state that was changed to something else.
 fn no_state() -> io::Error {
     io::Error::new(ErrorKind::InvalidData, "the text is not a state any more")
-}
-
-/// What a state says that a reader has begun to keep; nothing if it is not there.
-fn others_at(rt: &HostRuntime, place: &str) -> io::Result<KeptState> {
-    let text = match fs::read(rt, place) {
-        Ok(text) => text,
-        Err(reason) if reason.kind() == ErrorKind::NotFound => return Ok(KeptState::new(
-            rt.alloc(),
-        )),
-        Err(reason) => return Err(reason),
-    };
-    match said_in(rt.alloc(), text.as_slice()) {
-        Ok((state, _)) => Ok(state),
-        Err(StateFault::OutOfMemory) => Err(io::Error::from(ErrorKind::OutOfMemory)),
-        Err(StateFault::Invalid) => Err(no_state()),
-    }
-}
-
-/// What the text of a state says, and whether it has several lines of a station, as an earlier version wrote them.
-fn said_in(alloc: Global, text: &[u8]) -> Result<(KeptState, bool), StateFault> {
-    match read_state(alloc, text) {
-        Ok(state) => Ok((state, false)),
-        Err(StateFault::OutOfMemory) => Err(StateFault::OutOfMemory),
-        Err(StateFault::Invalid) => Ok((read_doubled(alloc, text)?, true)),
-    }
 }
 
 /// What is said of a state that can't be opened, or not be read to its end.
@@ -248,7 +251,7 @@ fn state_in<'a>(rt: &HostRuntime, file: File, path: &'a str) -> Result<KeptState
         Ok(text) => text,
         Err(reason) => return Err(refused_at(path, reason)),
     };
-    match said_in(rt.alloc(), text.as_slice()) {
+    match read_any(rt.alloc(), text.as_slice()) {
         Ok((state, is_doubled)) => {
             if is_doubled {
                 tell_doubled(rt, path);
@@ -368,17 +371,22 @@ impl<'r, 'a, 'w> StateKeeper<'r, 'a, 'w> {
         milliseconds(self.rt)
     }
 
+    /// Makes what was written last. The lengths that files have by then are those that are kept next.
+    fn take_lengths<P: Lasting>(&mut self, records: &P) -> Result<(), Unkept<'a>>
+        ensures lengths { OnOk result (P.Lasts records.now (option_map (λ fs. fs.items) self.new.lengths)) }
+        ensures failures { self.new.failures ≡ self.old.failures }
+    {
+        self.lengths = last_all(records, &self.output)?;
+        Ok(())
+    }
+
     /// Keeps what was counted in the file, if there is one, with the lengths that files had when they were made to
     /// last.
     fn keep_in_file(&mut self, tally: &Tally) -> io::Result<()>
         ensures { self.new.failures ≡ self.old.failures }
     {
-        let lengths = match &self.lengths {
-            Some(lengths) => Some(lengths.as_slice()),
-            None => None,
-        };
         match &mut self.file {
-            Some(file) => file.keep(self.rt, tally, self.wants, lengths),
+            Some(file) => file.keep(self.rt, tally, self.wants, &self.lengths),
             None => Ok(()),
         }
     }
@@ -408,11 +416,8 @@ impl<P: RecordSink + Lasting> Keeper<P> for StateKeeper<'_, '_, '_> {
         if self.file.is_none() {
             return Ok(());
         }
-        match last_all(records, &self.output) {
-            Ok(lengths) => {
-                self.lengths = lengths;
-                Ok(())
-            }
+        match self.take_lengths(records) {
+            Ok(()) => Ok(()),
             Err(unkept) => self.fail(unkept),
         }
     }
@@ -431,7 +436,9 @@ impl<P: RecordSink + Lasting> Keeper<P> for StateKeeper<'_, '_, '_> {
 fn last_all<'a, P: Lasting>(
     records: &P,
     output: &Option<SameFile<'a>>,
-) -> Result<Option<Vec<FileLength>>, Unkept<'a>> {
+) -> Result<Option<Vec<FileLength>>, Unkept<'a>>
+    ensures { IfOk result (λ lengths. P.Lasts records.now (option_map (λ fs. fs.items) lengths)) }
+{
     let lengths = match records.make_last() {
         Ok(lengths) => lengths,
         Err(failure) => return Err(Unkept::Records(failure)),
