@@ -108,6 +108,7 @@ class Tables(kit.Test):
             ended = self.run_program("replay", "config.toml", "/dev/null")
             self.assertEqual((ended.said, ended.status), ("seedlinkd: %s\n" % fault, 1), example)
 
+    @kit.unreleased
     def test_usages_are_those_of_help(self):
         """Each command and each of its options stands in the usages of the page, and no other."""
         part = re.search(r"<!-- begin usages -->\n(.*?)<!-- end usages -->", profile(), re.S).group(1)

@@ -74,6 +74,7 @@ plain config listen feed =
       numbers = None;
       status = None;
       status_from = None;
+      status_name = None;
       silent = None;
       is_logged = false;
       is_strict = false;
@@ -162,11 +163,12 @@ limited_asked = refl
 abbrev page_words : List Text
 page_words =
     codes "seedlinkd" ∷ codes "serve" ∷ codes "c" ∷ codes "--status" ∷ codes "d" ∷ codes "--feed=b"
-    ∷ codes "--listen=a" ∷ codes "--status-from=10.0.0.7" ∷ codes "--silent=60" ∷ []
+    ∷ codes "--listen=a" ∷ codes "--status-from=10.0.0.7" ∷ codes "--status-name=h"
+    ∷ codes "--silent=60" ∷ []
 
 pub page_asked : job_of page_words
     ≡ Some (Serve (record (plain (codes "c") (codes "a") (codes "b"))
-    { status = Some (codes "d"); status_from = Some (codes "10.0.0.7"); silent = Some 60 }))
+    { status = Some (codes "d"); status_from = Some (codes "10.0.0.7"); status_name = Some (codes "h"); silent = Some 60 }))
 unfolding clap_on_literals
 page_asked = refl
 

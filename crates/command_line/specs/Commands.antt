@@ -103,6 +103,7 @@ serve_app = app_by (codes "serve") (
     ∷ flag_rule (codes "log")
     ∷ option false (codes "status")
     ∷ option false (codes "status-from")
+    ∷ option false (codes "status-name")
     ∷ number_rule (codes "silent")
     ∷ flag_rule (codes "strict")
     ∷ [])

@@ -87,6 +87,7 @@ pub record ServeAsked : Type 0 where
   pub numbers : Option (List ℕ)
   pub status : Option (List ℕ)
   pub status_from : Option (List ℕ)
+  pub status_name : Option (List ℕ)
   pub silent : Option ℕ
   pub is_logged : Bool
   pub is_strict : Bool
@@ -106,6 +107,7 @@ serve_options_asked o =
       numbers = option_map (λ file. file.now) o.numbers;
       status = option_map (λ text. text.now) o.status;
       status_from = option_map (λ list. list.now) o.status_from;
+      status_name = option_map (λ name. name.now) o.status_name;
       silent = o.silent;
       is_logged = o.is_logged;
       is_strict = o.is_strict;
@@ -257,7 +259,8 @@ period_in name rows = spelled period_of (first_of name rows)
 
 -- they say something of a status page that is not asked for
 abbrev pub is_without_page : ServeAsked → Bool
-is_without_page o = not (is_some o.status) && (is_some o.status_from || is_some o.silent)
+is_without_page o =
+    not (is_some o.status) && (is_some o.status_from || is_some o.status_name || is_some o.silent)
 
 -- the job of `serve`, unless they do
 abbrev pub serving : ServeAsked → Option Asked
@@ -281,6 +284,7 @@ with_server (Some config) (Some listen) (Some feed) (Some turns) (Some reread) (
       numbers = first_of (codes "numbers") rows;
       status = first_of (codes "status") rows;
       status_from = first_of (codes "status-from") rows;
+      status_name = first_of (codes "status-name") rows;
       silent = silent;
       is_logged = flag_in (codes "log") rows;
       is_strict = flag_in (codes "strict") rows;

@@ -107,6 +107,9 @@ pub struct ServeOptions<'a> {
     /// `--status-from LIST`: the addresses that may ask there; those of this machine without a list. Only beside
     /// `status`.
     pub status_from: Option<&'a str>,
+    /// `--status-name NAME`: the name by which it may be asked there, besides addresses and `localhost`. Only beside
+    /// `status`.
+    pub status_name: Option<&'a str>,
     /// `--silent N`: a station counts as silent there after so many seconds without a record. Only beside `status`.
     pub silent: Option<usize>,
     /// `--log`: it is told who comes and goes.

@@ -61,6 +61,8 @@ fn serve_mistake(arguments: &ArgMatches<'_>) -> &'static str {
         NUMBER
     } else if text_at(arguments, "status-from").is_some() {
         "--status-from needs --status"
+    } else if text_at(arguments, "status-name").is_some() {
+        "--status-name needs --status"
     } else {
         "--silent needs --status"
     }

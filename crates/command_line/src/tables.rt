@@ -11,7 +11,7 @@ const STRICT_HELP: &str = "Refuses a CONFIG with keys that are not known";
 /// What `--iso` does.
 const ISO_HELP: &str = "Writes times as 2024-02-29T00:00:00.0000Z";
 
-pub static SERVE: [Argument<'static>; 14] = [
+pub static SERVE: [Argument<'static>; 15] = [
     Wanted("CONFIG", CONFIG_HELP),
     Needed("listen", "A:P", "Address and port for clients"),
     Needed("feed", "A:P", "Address and port for feeds of records"),
@@ -53,6 +53,11 @@ pub static SERVE: [Argument<'static>; 14] = [
         "status-from",
         "LIST",
         "Tells it to these addresses alone, as 10.0.0.7, 10.0.0.0/8; to this machine without a list",
+    ),
+    Value(
+        "status-name",
+        "NAME",
+        "Tells it by this name too, besides addresses and localhost",
     ),
     Number(
         "silent",

@@ -169,7 +169,10 @@ pub fn period_in<'a>(arguments: &ArgMatches<'a>, name: &str) -> Option<Option<Pe
 fn is_without_page(options: &ServeOptions<'_>) -> bool
     ensures { result ≡ is_without_page (serve_options_asked options.now) }
 {
-    options.status.is_none() && (options.status_from.is_some() || options.silent.is_some())
+    options.status.is_none()
+        && (options.status_from.is_some()
+            || options.status_name.is_some()
+            || options.silent.is_some())
 }
 
 fn serve_job<'a>(arguments: &ArgMatches<'a>) -> Option<Job<'a>>
@@ -196,6 +199,7 @@ fn serve_job<'a>(arguments: &ArgMatches<'a>) -> Option<Job<'a>>
         numbers: text_at(arguments, "numbers"),
         status: text_at(arguments, "status"),
         status_from: text_at(arguments, "status-from"),
+        status_name: text_at(arguments, "status-name"),
         silent,
         is_logged: has_flag(arguments, "log"),
         is_strict,

@@ -1,6 +1,6 @@
 //! Who may connect to a server, by the words of its command line.
 ghost use Rattle.std.specs.Prelude.{◌≡◌, ◌≢◌, IfErr, IfOk};
-ghost use Rattle.job_serve.specs.Admitting.{FeedsFrom, RefusesList};
+ghost use Rattle.job_serve.specs.Admitting.{FromList, RefusesList};
 ghost use Rattle.protocol.specs.declared.reason.Reason.TheVariants.{OutOfMemory};
 
 use access_list::AccessList;
@@ -18,7 +18,7 @@ pub fn admission_of<'a>(
     alloc: Global,
     options: &ServeOptions<'a>,
 ) -> Result<Admission, Incident<'a>>
-    ensures feeds { IfOk result (λ admission. FeedsFrom options.now.feed_from admission.feed_from) }
+    ensures feeds { IfOk result (λ admission. FromList options.now.feed_from admission.feed_from) }
     ensures clients { IfOk result (λ admission. admission.per_address ≡ options.now.per_address) }
     ensures refused { IfErr result (λ incident. incident.failure.reason ≢ OutOfMemory →
         RefusesList options.now.feed_from incident) }

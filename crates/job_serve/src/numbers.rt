@@ -3,10 +3,11 @@
 //! A keep that fails is tried again after each turn. A young station may reach the kept number within two turns, so
 //! waiting for more records would be too late. A write to a full disk mostly fails before anything is synced. It is
 //! reported once, and again only after a keep that succeeded.
-ghost use Rattle.std.specs.Prelude.{◌≡◌};
+ghost use Rattle.std.specs.Prelude.{◌≡◌, IfOk, OnOk};
 ghost use Rattle.catalog.specs.Numbers.{config_by};
 ghost use Rattle.number_file.specs.Tables.{with_nexts};
 ghost use Rattle.serving.specs.Ahead.{ahead_of};
+ghost use Rattle.job_serve.specs.KeptNumbers.{IsText};
 
 use crate::numbers_fault::NumbersFault;
 use catalog::{Config, ConfigFault, KeptNumber};
@@ -42,7 +43,9 @@ impl<'a> NumberFile<'a> {
         rt: &HostRuntime,
         path: &'a str,
         config: &mut Config,
-    ) -> Result<NumberFile<'a>, Incident<'a>> {
+    ) -> Result<NumberFile<'a>, Incident<'a>>
+        ensures { IfOk result (λ file. config.new ≡ config_by file.first.items config.old) }
+    {
         let place = place_named(rt, path)?;
         let lock = locked(rt, place.as_str(), path)?;
         let first = kept_at(rt, place.as_str(), path)?;
@@ -61,7 +64,9 @@ impl<'a> NumberFile<'a> {
         lock: File,
         first: Vec<KeptNumber>,
         config: &Config,
-    ) -> Result<NumberFile<'a>, AllocError> {
+    ) -> Result<NumberFile<'a>, AllocError>
+        ensures { IfOk result (λ file. file.first.items ≡ first.items) }
+    {
         let table = NumberTable::new(alloc, config, first.as_slice())?;
         let new_path = format!(in alloc; "{place}.new")?;
         Ok(NumberFile {
@@ -82,15 +87,22 @@ impl<'a> NumberFile<'a> {
         config.begin_at(self.first.as_slice());
     }
 
+    /// The text of a server's numbers. Only memory can lack, and none is taken once a text as long was made.
+    fn write(&mut self, numbers: &NumbersAhead<'_>) -> Result<(), AllocError>
+        ensures kept { OnOk result (IsText self.old.table (ahead_of numbers.now) self.new.table self.new.text.items) }
+        ensures first { self.new.first ≡ self.old.first }
+    {
+        set_numbers(&mut self.table, numbers);
+        self.table.write(&mut self.text)
+    }
+
     /// Keeps the numbers of a server's stations: the file is written anew under another name, which then takes its
     /// place. It takes no memory once it was written.
-    pub fn keep(
-        &mut self,
-        rt: &HostRuntime,
-        numbers: &NumbersAhead<'_>,
-    ) -> Result<(), Incident<'a>> {
-        set_numbers(&mut self.table, numbers);
-        if self.table.write(&mut self.text).is_err() {
+    pub fn keep(&mut self, rt: &HostRuntime, numbers: &NumbersAhead<'_>) -> Result<(), Incident<'a>>
+        ensures kept { OnOk result (IsText self.old.table (ahead_of numbers.now) self.new.table self.new.text.items) }
+        ensures first { self.new.first ≡ self.old.first }
+    {
+        if self.write(numbers).is_err() {
             return Err(Incident::out_of_memory());
         }
         match replace(

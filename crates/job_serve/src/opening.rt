@@ -1,6 +1,7 @@
 //! What a server has before it listens: where it is to, whom it takes, and what its files say.
-ghost use Rattle.std.specs.Prelude.{◌≡◌, IfOk, is_some};
-ghost use Rattle.job_serve.specs.Admitting.{FeedsFrom};
+ghost use Rattle.std.specs.Prelude.{◌≡◌, IfOk, IfSome, Some, is_some};
+ghost use Rattle.job_base.specs.Endpoints.{endpoint_of, endpoint_value};
+ghost use Rattle.job_serve.specs.Admitting.{AsksBy, FromList};
 
 use crate::admitting::admission_of;
 use crate::descriptors::tell_missing;
@@ -28,8 +29,17 @@ pub fn doors_of<'a>(
     alloc: Global,
     options: &ServeOptions<'a>,
 ) -> Result<ServerDoors<'a>, Incident<'a>>
-    ensures feeds { IfOk result (λ doors. FeedsFrom options.now.feed_from doors.admission.feed_from) }
+    ensures feeds { IfOk result (λ doors. FromList options.now.feed_from doors.admission.feed_from) }
     ensures clients { IfOk result (λ doors. doors.admission.per_address ≡ options.now.per_address) }
+    ensures listen { IfOk result (λ doors.
+        endpoint_of options.now.listen.now ≡ Some (endpoint_value doors.clients.endpoint)) }
+    ensures feed { IfOk result (λ doors.
+        endpoint_of options.now.feed.now ≡ Some (endpoint_value doors.feeds.endpoint)) }
+    ensures status { IfOk result (λ doors. is_some doors.status ≡ is_some options.now.status) }
+    ensures askers { IfOk result (λ doors.
+        IfSome doors.status (λ door. FromList options.now.status_from door.list)) }
+    ensures name { IfOk result (λ doors.
+        IfSome doors.status (λ door. AsksBy options.now.status_name door.name.items)) }
 {
     let clients = server_of(options.listen)?;
     let feeds = server_of(options.feed)?;
@@ -68,7 +78,8 @@ pub fn served_by<'a>(
     rt: &HostRuntime,
     options: &ServeOptions<'a>,
 ) -> Result<Served<'a>, Incident<'a>>
-    ensures { IfOk result (λ served. is_some served.files.numbers ≡ is_some options.now.numbers) }
+    ensures numbers { IfOk result (λ served. is_some served.files.numbers ≡ is_some options.now.numbers) }
+    ensures in_force { IfOk result (λ served. served.files.in_force ≡ served.config) }
 {
     if options.reread.is_some() {
         plain_at(rt, options.config)?;

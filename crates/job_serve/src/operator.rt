@@ -1,11 +1,16 @@
 //! What a server asks and reports between its turns, over the file of its configuration and lines to standard error.
-ghost use Rattle.std.specs.Prelude.{◌≡◌, ◌∷◌, [], None, IfErr, IfOk};
+ghost use Rattle.std.specs.Prelude.{◌≡◌, ◌≢◌, ◌∷◌, [], false, true, IfErr, IfOk, IfSome, None, Ok, OnOk};
+ghost use Rattle.toml.specs.Parse.{parse_document};
+ghost use Rattle.protocol.specs.Catalog.{is_same_but_for_access};
+ghost use Rattle.catalog.specs.Reading.{config_read};
+ghost use Rattle.serving.specs.Ahead.{ahead_of};
 ghost use Rattle.serving.specs.Asked.{Tells};
-ghost use Rattle.serving.specs.Asked.Asked.{Looks, Refuses};
-ghost use Rattle.serving.specs.Paces.{IsPaced};
+ghost use Rattle.serving.specs.Asked.Asked.{Keeps, Looks, Refuses};
+ghost use Rattle.serving.specs.Paces.{IsPaced, new_pace};
 ghost use Rattle.serving.specs.Faults.{serve_reason};
 ghost use Rattle.protocol.specs.declared.reason.Reason.TheVariants.{Poll};
 ghost use Rattle.job_serve.specs.Serving.{ServedByFile, EndedByFile};
+ghost use Rattle.job_serve.specs.Taken.{HasKept, IsReadFrom, begun_by};
 ghost use Rattle.job_serve.specs.Timetables.{timetable_of};
 ghost use Rattle.incidents.specs.declared.incident.Incident.{Incident};
 
@@ -78,6 +83,9 @@ pub struct Operator<'r, 'a, 'l> {
     status: Option<StatusDesk<'l>>,
     /// Whether it is told when another configuration comes into force.
     is_logged: bool,
+    /// The text that was found last, if it is strict: another one is looked at once it is found again, since it may be
+    /// one that is just being written.
+    seen: Vec<u8>,
     /// The configuration in force, and the text in force as it was read.
     in_force: Config,
     read: ConfigText,
@@ -87,12 +95,14 @@ pub struct Operator<'r, 'a, 'l> {
 
 impl<'a> Operator<'_, 'a, '_> {
     /// Tells an incident that ends nothing.
-    fn tell(&mut self, incident: &Incident<'_>) {
+    fn tell(&self, incident: &Incident<'_>) {
         self.errors.write_line(&line_of(incident, self.is_verbose));
     }
 
     /// Tells lines that name unknown keys, if they are others than those that were told last.
-    fn tell_unknown(&mut self, lines: Vec<u8>) {
+    fn tell_unknown(&mut self, lines: Vec<u8>)
+        ensures { self.new ≡ record self.old { unknown = lines } }
+    {
         if lines.as_slice() != self.unknown.as_slice() {
             for line in lines.as_slice().split(|byte| *byte == b'\n') {
                 self.tell_text(line);
@@ -102,7 +112,7 @@ impl<'a> Operator<'_, 'a, '_> {
     }
 
     /// Tells a line that was made already, if it is one.
-    fn tell_text(&mut self, text: &[u8]) {
+    fn tell_text(&self, text: &[u8]) {
         let mut line = ErrorLine::new();
         if let Ok(text) = str::from_utf8(text) {
             if !text.is_empty() && line.try_push_str(text).is_ok() {
@@ -166,7 +176,14 @@ impl<'r, 'a, 'l> Operator<'r, 'a, 'l> {
         files: ServedFiles<'a>,
         errors: &'l SharedLines,
         status: Option<StatusDesk<'l>>,
-    ) -> Operator<'r, 'a, 'l> {
+    ) -> Operator<'r, 'a, 'l>
+        ensures reread { result.reread ≡ new_pace request.entry.options.reread }
+        ensures report { result.report ≡ new_pace request.entry.options.report }
+        ensures strict { result.is_strict ≡ request.entry.options.is_strict }
+        ensures read { result.read ≡ files.entry.read }
+        ensures in_force { result.in_force ≡ files.entry.in_force }
+        ensures numbers { result.numbers ≡ files.entry.numbers }
+    {
         let options = request.options;
         let ServedFiles {
             in_force,
@@ -186,6 +203,7 @@ impl<'r, 'a, 'l> Operator<'r, 'a, 'l> {
             is_verbose: request.is_verbose,
             is_strict: options.is_strict,
             unknown: Vec::new(rt.alloc()),
+            seen: Vec::new(rt.alloc()),
             errors,
             status,
             is_logged: options.is_logged,
@@ -247,7 +265,12 @@ impl<'a> Operator<'_, 'a, '_> {
 
     /// The configuration that a text spells. Keys that are not known are named if they are others than those that were
     /// named last, and if it is strict, the configuration is refused for them.
-    fn config_of(&mut self, text: Vec<u8>) -> Result<ConfigText, Incident<'a>> {
+    fn config_of(&mut self, text: Vec<u8>) -> Result<ConfigText, Incident<'a>>
+        ensures read { IfOk result (λ read. config_read (parse_document text.items) ≡ Ok read.config) }
+        ensures numbers { self.new.numbers ≡ self.old.numbers }
+        ensures in_force { self.new.in_force ≡ self.old.in_force }
+        ensures text { self.new.read ≡ self.old.read }
+    {
         let alloc = self.rt.alloc();
         let read = config_in(alloc, self.path, text)?;
         let lines = unknown_lines(alloc, &read)?;
@@ -256,15 +279,29 @@ impl<'a> Operator<'_, 'a, '_> {
         Ok(read)
     }
 
+    /// A configuration once more, whose stations begin with what the file of numbers said when the server began.
+    fn begun(&self, config: &Config) -> Result<Config, Incident<'a>>
+        ensures { IfOk result (λ begun. begun ≡ begun_by self.now.numbers config.now) }
+    {
+        let mut begun = copy_of(self.rt.alloc(), config)?;
+        if let Some(file) = &self.numbers {
+            file.begin(&mut begun);
+        }
+        Ok(begun)
+    }
+
     /// The text is the one in force: there is nothing that it differs in, and no key of another one.
     fn note_unchanged(&mut self) {
         self.difference = None;
         self.unknown = Vec::new(self.rt.alloc());
+        self.seen = Vec::new(self.rt.alloc());
     }
 
     /// Compares a configuration of another text with the one in force. If it differs in access lists alone, it comes
     /// into force, and its text with it.
-    fn compare(&mut self, config: &Config, read: ConfigText) {
+    fn compare(&mut self, config: &Config, read: ConfigText)
+        ensures { is_same_but_for_access self.old.in_force config.now ≡ false → self.new.read ≡ self.old.read }
+    {
         let alloc = self.rt.alloc();
         match first_difference(alloc, &self.in_force, config) {
             Ok(None) => {
@@ -278,6 +315,37 @@ impl<'a> Operator<'_, 'a, '_> {
             Ok(difference) => self.difference = difference,
             Err(_) => self.difference = None,
         }
+    }
+
+    /// Whether it is strict and finds a text for the first time.
+    fn is_first_found(&self, text: &[u8]) -> bool
+        ensures { self.now.is_strict ≡ true → text.now ≢ self.now.seen.items → result ≡ true }
+    {
+        self.is_strict && text != self.seen.as_slice()
+    }
+
+    /// What a text of the configuration comes to: nothing, if it is the one in force, byte for byte, or if it is strict
+    /// and finds the text for the first time. Else it is the configuration that it spells, with what the file of numbers
+    /// said; the text takes the place of the one in force if they differ in access lists alone.
+    fn taken_of(&mut self, text: Vec<u8>) -> Result<Option<Config>, Incident<'a>>
+        ensures same { text.items ≡ self.old.read.text → result ≡ Ok None }
+        ensures again { self.old.is_strict ≡ true → text.items ≢ self.old.seen.items → result ≡ Ok None }
+        ensures new { IfOk result (λ new. IfSome new (IsReadFrom text.items self.old.numbers)) }
+        ensures refused { IfOk result (λ new. IfSome new (λ config.
+            is_same_but_for_access self.old.in_force config ≡ false → self.new.read ≡ self.old.read)) }
+    {
+        if text.as_slice() == self.read.text() {
+            self.note_unchanged();
+            return Ok(None);
+        }
+        if self.is_first_found(text.as_slice()) {
+            self.seen = text;
+            return Ok(None);
+        }
+        let read = self.config_of(text)?;
+        let config = self.begun(read.config())?;
+        self.compare(&config, read);
+        Ok(Some(config))
     }
 }
 
@@ -302,17 +370,7 @@ impl<'a> Between for Operator<'_, 'a, '_> {
     /// By its text: one that is the same, byte for byte, is not read as a configuration again.
     fn configuration(&mut self) -> Result<Option<Config>, Incident<'a>> {
         let text = self.read_text()?;
-        if text.as_slice() == self.read.text() {
-            self.note_unchanged();
-            return Ok(None);
-        }
-        let read = self.config_of(text)?;
-        let mut config = copy_of(self.rt.alloc(), read.config())?;
-        if let Some(file) = &self.numbers {
-            file.begin(&mut config);
-        }
-        self.compare(&config, read);
-        Ok(Some(config))
+        self.taken_of(text)
     }
 
     fn refused(&mut self, refusal: Refusal<Incident<'a>>)
@@ -332,7 +390,10 @@ impl<'a> Between for Operator<'_, 'a, '_> {
         self.errors.write_line(&line);
     }
 
-    fn keep(&mut self, numbers: &NumbersAhead<'_>) -> Result<(), Incident<'a>> {
+    fn keep(&mut self, numbers: &NumbersAhead<'_>) -> Result<(), Incident<'a>>
+        ensures call { Tells None None (Keeps (ahead_of numbers.now) result ∷ []) }
+        ensures kept { OnOk result (HasKept self.old.numbers (ahead_of numbers.now) self.new.numbers) }
+    {
         let Some(file) = &mut self.numbers else {
             return Ok(());
         };

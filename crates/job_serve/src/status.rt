@@ -1,4 +1,8 @@
 //! The status port of a server: between its turns it is looked at, and what is asked is answered.
+ghost use Rattle.std.specs.Prelude.{◌≡◌, IfOk, IfSome, is_some};
+ghost use Rattle.std.specs.Option.{unwrap_or};
+ghost use Rattle.job_serve.specs.Admitting.{AsksBy, FromList};
+
 use crate::counts::SharedCounts;
 use crate::listening::unlistened;
 use crate::opening::Served;
@@ -25,15 +29,18 @@ const PACE: u64 = 10;
 /// After how many seconds without a record a station is silent, if the command line doesn't say it.
 const SILENT: usize = 600;
 
-/// Where the status port is to be, and from where it may be asked.
+/// Where the status port is to be, from where it may be asked, and by which name besides addresses and `localhost`.
 #[derive(Drop)]
 pub struct StatusDoor<'a> {
     address: ServerAddress<'a>,
     list: Option<AccessList>,
+    name: Vec<u8>,
 }
 
 /// From where a status port may be asked, by the list that a word spells; this machine alone without one.
-fn list_of<'a>(alloc: Global, word: Option<&'a str>) -> Result<Option<AccessList>, Incident<'a>> {
+fn list_of<'a>(alloc: Global, word: Option<&'a str>) -> Result<Option<AccessList>, Incident<'a>>
+    ensures { IfOk result (λ list. FromList word.entry list) }
+{
     match word {
         Some(word) => match AccessList::parse(alloc, word.as_bytes()) {
             Ok(list) => Ok(Some(list)),
@@ -43,19 +50,39 @@ fn list_of<'a>(alloc: Global, word: Option<&'a str>) -> Result<Option<AccessList
     }
 }
 
-/// Where the status port is to be, if the words of a command line name one.
+/// By which name it may be asked, besides addresses and `localhost`.
+fn name_of<'a>(alloc: Global, word: Option<&'a str>) -> Result<Vec<u8>, Incident<'a>>
+    ensures { IfOk result (λ name. AsksBy word.entry name.items) }
+{
+    let Some(word) = word else {
+        return Ok(Vec::new(alloc));
+    };
+    match word.as_bytes().to_vec(alloc) {
+        Ok(name) => Ok(name),
+        Err(_) => Err(no_memory()),
+    }
+}
+
+/// Where the status port is to be, and who may ask it, if the words of a command line name one.
 pub fn status_door<'a>(
     alloc: Global,
     options: &ServeOptions<'a>,
-) -> Result<Option<StatusDoor<'a>>, Incident<'a>> {
-    match options.status {
-        Some(word) => {
-            let address = server_of(word)?;
-            let list = list_of(alloc, options.status_from)?;
-            Ok(Some(StatusDoor { address, list }))
-        }
-        None => Ok(None),
-    }
+) -> Result<Option<StatusDoor<'a>>, Incident<'a>>
+    ensures named { IfOk result (λ door. is_some door ≡ is_some options.now.status) }
+    ensures list { IfOk result (λ door. IfSome door (λ d. FromList options.now.status_from d.list)) }
+    ensures name { IfOk result (λ door. IfSome door (λ d. AsksBy options.now.status_name d.name.items)) }
+{
+    let Some(word) = options.status else {
+        return Ok(None);
+    };
+    let address = server_of(word)?;
+    let list = list_of(alloc, options.status_from)?;
+    let name = name_of(alloc, options.status_name)?;
+    Ok(Some(StatusDoor {
+        address,
+        list,
+        name,
+    }))
 }
 
 /// Listens there, if there is to be a status port.
@@ -73,10 +100,20 @@ pub fn listen_for_status<'a>(
 }
 
 /// Listens where a status port is to be.
-fn listen_at<'a>(rt: &HostRuntime, door: StatusDoor<'a>) -> Result<StatusPorts, Incident<'a>> {
-    let StatusDoor { address, list } = door;
-    match StatusPorts::listen(rt, rt.alloc(), address.endpoint.socket_address(), list) {
-        Ok(ports) => Ok(ports),
+fn listen_at<'a>(rt: &HostRuntime, door: StatusDoor<'a>) -> Result<StatusPorts, Incident<'a>>
+    ensures { IfOk result (λ ports. ports ≡ record { list = door.entry.list; name = door.entry.name.items }) }
+{
+    let StatusDoor {
+        address,
+        list,
+        name,
+    } = door;
+    let at = address.endpoint.socket_address();
+    match StatusPorts::listen(rt, rt.alloc(), at, list) {
+        Ok(mut ports) => {
+            ports.take_name(name);
+            Ok(ports)
+        }
         Err(reason) => Err(unlistened(address, reason)),
     }
 }
@@ -126,7 +163,10 @@ impl<'l> StatusDesk<'l> {
         served: &Served<'_>,
         silent: Option<usize>,
         counts: &'l SharedCounts,
-    ) -> Result<StatusDesk<'l>, AllocError> {
+    ) -> Result<StatusDesk<'l>, AllocError>
+        ensures silent { IfOk result (λ desk. desk.silent_after ≡ unwrap_or silent 600) }
+        ensures ports { IfOk result (λ desk. desk.ports ≡ ports) }
+    {
         let watch = watch_of(alloc, &served.config)?;
         let began = match rt.since_1970() {
             Ok(now) => tick_of(now),
@@ -151,6 +191,7 @@ impl<'l> StatusDesk<'l> {
     /// A configuration comes into force.
     pub fn take_config(&mut self, alloc: Global, read: &ConfigText) {
         self.users = users_in(alloc, read);
+        self.ports.forget();
     }
 
     /// A turn ends, at a time in microseconds.
@@ -158,8 +199,8 @@ impl<'l> StatusDesk<'l> {
         self.counts.end_turn(now);
     }
 
-    /// Looks at the server and at the port, at a time in milliseconds since the server began, and answers one request
-    /// if there is one. It never waits.
+    /// Looks at the server and at the port, at a time in milliseconds since the server began. What was told less than a
+    /// second ago is told again, and of the other texts that are asked for one is made. It never waits.
     pub fn look<P: Ports>(&mut self, alloc: Global, now: u64, server: &Loop<P>) {
         match self.looked {
             Some(looked) if now.saturating_sub(looked) < PACE => return,
@@ -171,7 +212,8 @@ impl<'l> StatusDesk<'l> {
         }
     }
 
-    /// Answers a request. Without memory for what is told, it is not answered, and closed when its time is over.
+    /// Makes the text for a request, and answers all who asked for it. Without memory for what is told, they are not
+    /// answered, and closed when their time is over.
     fn answer<P: Ports>(&mut self, alloc: Global, now: u64, server: &Loop<P>, asked: Asked) {
         let Some(counts) = self.counts.counts() else {
             return;
