@@ -225,7 +225,7 @@ strict_view_asked = refl
 
 -- what `feed` is asked without options
 abbrev plain_feed : FeedAsked
-plain_feed = record { from = None; config = None; is_strict = false; skips = false }
+plain_feed = record { from = None; config = None; is_strict = false; skips = false; timeout = None }
 
 pub feed_asked : job_of (codes "seedlinkd" ∷ codes "feed" ∷ codes "a" ∷ codes "f" ∷ [])
     ≡ Some (Feed (codes "a") (codes "f" ∷ []) plain_feed)
@@ -247,6 +247,11 @@ pub strict_feed_asked : job_of (codes "seedlinkd" ∷ codes "feed" ∷ codes "a"
     ≡ Some (Feed (codes "a") (codes "f" ∷ []) (record plain_feed { is_strict = true }))
 unfolding clap_on_literals
 strict_feed_asked = refl
+
+pub patient_feed_asked : job_of (codes "seedlinkd" ∷ codes "feed" ∷ codes "a" ∷ codes "f" ∷ codes "--timeout=9" ∷ [])
+    ≡ Some (Feed (codes "a") (codes "f" ∷ []) (record plain_feed { timeout = Some 9 }))
+unfolding clap_on_literals
+patient_feed_asked = refl
 
 -- both ways to go on
 pub one_way : job_of (codes "seedlinkd" ∷ codes "feed" ∷ codes "a" ∷ codes "f" ∷ codes "--strict" ∷ codes "--skip" ∷ [])

@@ -117,6 +117,7 @@ feed_app = app_by (codes "feed") (
     ∷ option false (codes "config")
     ∷ flag_rule (codes "strict")
     ∷ flag_rule (codes "skip")
+    ∷ number_rule (codes "timeout")
     ∷ [])
 
 -- `read A:P,.. WANT.. ..`

@@ -138,6 +138,7 @@ pub record FeedAsked : Type 0 where
   pub skips : Bool
 
 -- those that the code has
+  pub timeout : Option ℕ
 abbrev pub feed_options_asked : FeedOptions → FeedAsked
 feed_options_asked o =
     record {
@@ -147,6 +148,7 @@ feed_options_asked o =
       skips = o.skips;
     }
 
+      timeout = o.timeout;
 -- A job as texts and numbers.
 pub data Asked : Type 0 where
   Check : (files : List (List ℕ)) → (options : CheckAsked) → Asked
@@ -301,10 +303,11 @@ serve_asked rows =
 abbrev pub one_way : FeedAsked → Option FeedAsked
 one_way o = if o.is_strict && o.skips then None else Some o
 
--- the options of `feed`, as they stand there, if the number is one
-abbrev pub feed_options_with : Option (Option ℕ) → List Row → Option FeedAsked
-feed_options_with None rows = None
-feed_options_with (Some from) rows =
+-- the options of `feed`, as they stand there, if both numbers are numbers
+abbrev pub feed_options_with : (from timeout : Option (Option ℕ)) → List Row → Option FeedAsked
+feed_options_with None timeout rows = None
+feed_options_with (Some from) None rows = None
+feed_options_with (Some from) (Some timeout) rows =
     one_way (record {
       from = from;
       config = first_of (codes "config") rows;
@@ -312,8 +315,9 @@ feed_options_with (Some from) rows =
       skips = flag_in (codes "skip") rows;
     })
 
+      timeout = timeout;
 abbrev pub feed_options_in : List Row → Option FeedAsked
-feed_options_in rows = feed_options_with (number_in (codes "from") rows) rows
+feed_options_in rows = feed_options_with (number_in (codes "from") rows) (number_in (codes "timeout") rows) rows
 
 -- a feeder's job, where all of it is there
 abbrev pub with_files : Option (List ℕ) → Option (List (List ℕ)) → Option FeedAsked → Option Asked

@@ -68,7 +68,7 @@ pub struct ViewOptions<'a> {
     pub is_strict: bool,
 }
 
-/// The options of `feed`. The last two do not stand together.
+/// The options of `feed`. `--strict` and `--skip` do not stand together.
 #[derive(Clone, Copy)]
 pub struct FeedOptions<'a> {
     /// `--from K`: the first record of the first file that is sent, 1 to 1,000,000,000.
@@ -79,6 +79,9 @@ pub struct FeedOptions<'a> {
     pub is_strict: bool,
     /// `--skip`: where records are not valid, it goes on at the next place where two valid headers follow each other.
     pub skips: bool,
+    /// `--timeout N`: it ends if the server takes nothing, or does not end the connection, for so many seconds, 1 to
+    /// 1,000,000,000.
+    pub timeout: Option<usize>,
 }
 
 /// The words of `serve`. Each number is 1 to 1,000,000,000.

@@ -66,7 +66,7 @@ pub static SERVE: [Argument<'static>; 15] = [
     Flag("strict", STRICT_HELP),
 ];
 
-pub static FEED: [Argument<'static>; 6] = [
+pub static FEED: [Argument<'static>; 7] = [
     Wanted("SERVER", "Address and port for feeds, as 127.0.0.1:18001"),
     Several(
         "FILE",
@@ -88,6 +88,10 @@ pub static FEED: [Argument<'static>; 6] = [
     Flag(
         "skip",
         "Goes on at the next place where two valid headers follow each other",
+    ),
+    Number(
+        "timeout",
+        "Ends when the server takes nothing, or does not end the connection, for N seconds, 1 to 1000000000",
     ),
 ];
 

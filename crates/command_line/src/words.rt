@@ -210,11 +210,12 @@ fn serve_job<'a>(arguments: &ArgMatches<'a>) -> Option<Job<'a>>
     Some(Job::Serve(options))
 }
 
-/// The options of `feed`; None if the text of the number is not one, or if `--strict` and `--skip` stand together.
+/// The options of `feed`; None if the text of a number is not one, or if `--strict` and `--skip` stand together.
 fn feed_options<'a>(arguments: &ArgMatches<'a>) -> Option<FeedOptions<'a>>
     ensures { option_map feed_options_asked result ≡ feed_options_in (rows_of (found_of arguments.now)) }
 {
     let from = number_in(arguments, "from")?;
+    let limit = number_in(arguments, "timeout")?;
     let stops = has_flag(arguments, "strict");
     let skips = has_flag(arguments, "skip");
     if stops && skips {
@@ -225,6 +226,7 @@ fn feed_options<'a>(arguments: &ArgMatches<'a>) -> Option<FeedOptions<'a>>
         config: text_at(arguments, "config"),
         is_strict: stops,
         skips,
+        timeout: limit,
     })
 }
 

@@ -3,9 +3,10 @@ use Rattle.protocol.specs.declared.reason.Reason.{Reason}
 use Rattle.protocol.specs.declared.reason.Reason.TheVariants as reason
 use Rattle.feeder.specs.Sending.{send_reason}
 use Rattle.job_feed.specs.declared.fault.FeedFault.{FeedFault}
-use Rattle.job_feed.specs.declared.fault.FeedFault.TheVariants.{Send, Untaken, Answered}
+use Rattle.job_feed.specs.declared.fault.FeedFault.TheVariants.{Send, Untaken, Silent, Answered}
 
 abbrev pub feed_reason : FeedFault → Reason
 feed_reason (Send fault) = send_reason fault
 feed_reason Untaken = reason.Write
+feed_reason Silent = reason.Write
 feed_reason Answered = reason.BadReply

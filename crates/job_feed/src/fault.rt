@@ -13,6 +13,8 @@ pub enum FeedFault {
     Send(SendFault),
     /// The server ended the connection before it had read everything.
     Untaken,
+    /// The server took nothing, or did not end the connection, for too long.
+    Silent,
     /// The server answered, which a feed port never does.
     Answered,
 }
@@ -24,7 +26,7 @@ impl FeedFault {
     {
         match self {
             FeedFault::Send(fault) => fault.reason(),
-            FeedFault::Untaken => Reason::Write,
+            FeedFault::Untaken | FeedFault::Silent => Reason::Write,
             FeedFault::Answered => Reason::BadReply,
         }
     }
@@ -35,6 +37,9 @@ impl FeedFault {
             FeedFault::Send(_) => None,
             FeedFault::Untaken => Some(
                 "the server ended the connection before it had read everything; perhaps it takes no feed from here now",
+            ),
+            FeedFault::Silent => Some(
+                "the server took nothing, or did not end the connection, for the time of --timeout",
             ),
             FeedFault::Answered => Some(
                 "the server answered, which a feed port never does; perhaps this is its port for clients",

@@ -50,16 +50,18 @@ pub struct SentFeed {
 
 impl SentFeed {
     /// Waits for the server's end. If it comes in order, the server has read everything: then the answer is how many
-    /// records were sent. It fails with 43 if the connection was reset, or if the server ended it before it had read
-    /// to the end, and with 52 if the server answered something.
+    /// records were sent. It fails with 43 if the connection was reset, if the server ended it before it had read to
+    /// the end, or if the end does not come in time, and with 52 if the server answered something.
     pub fn wait(self) -> Result<u64, FeedFault> {
         let SentFeed { stream, count } = self;
         let mut server = Outer::new(stream);
-        await_end(&mut server)?;
-        if is_closed(&server.into_inner()) {
-            Ok(count)
-        } else {
-            Err(FeedFault::Untaken)
+        let awaited = await_end(&mut server);
+        let stream = server.into_inner();
+        match awaited {
+            Ok(()) if is_closed(&stream) => Ok(count),
+            Ok(()) => Err(FeedFault::Untaken),
+            Err(FeedFault::Untaken) if !is_over(&stream) => Err(FeedFault::Silent),
+            Err(fault) => Err(fault),
         }
     }
 }
@@ -148,6 +150,11 @@ impl<T: Write + Drop> Feed<T> {
 }
 
 impl Feed<TcpStream> {
+    /// Whether the connection is still there: a write that failed has ended by its time.
+    pub fn is_open(&self) -> bool {
+        !is_over(&self.stream)
+    }
+
     /// Shuts the sending half. It fails with 43 if the server ended the connection before.
     pub fn shut(self) -> Result<SentFeed, FeedFault>
         ensures { IfOk result (λ sent. sent.count ≡ self.taken / 512) }

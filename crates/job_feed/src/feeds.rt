@@ -6,6 +6,7 @@ ghost use Rattle.std.specs.Prelude.{◌≡◌, ◌/◌, IfOk, IfSome, OnOk};
 ghost use Rattle.job_feed.specs.Skipping.{first_record};
 
 use crate::aligned::Aligned;
+use crate::fault::FeedFault;
 use crate::feed::{Feed, SentFeed};
 use crate::judging::{Judged, finding_of};
 use crate::lines::FeedLine;
@@ -17,13 +18,14 @@ use feeder::SendFault;
 use incidents::{Failure, Incident, Place};
 use job_base::{
     ConfiguredStations, ReasonKeeper, ServerAddress, Watched, checked_config_at, connection,
-    is_terminal, open, refused_records, server_of, size_of,
+    is_terminal, open, refused_records, server_of, size_of, unconnected,
 };
 use record_check::{AllStations, FeedTally, FileKind, Stations};
 use sl_io::{DeviceFault, Outer};
 use std::fs::File;
-use std::io::Read;
-use std::net::TcpStream;
+use std::io::{self, Read};
+use std::net::{SocketAddr, TcpStream};
+use std::time::Duration;
 
 /// How the records of files are judged while they are sent.
 #[derive(Drop)]
@@ -34,6 +36,8 @@ pub struct FeedRules<'s, S> {
     pub is_strict: bool,
     /// Whether what is in no record is passed over.
     pub skips: bool,
+    /// For how long at most the server takes nothing, or does not end the connection.
+    pub limit: Option<Duration>,
 }
 
 /// How far a feed is: what was judged, the first file with a record that is refused, and what it is if that is known,
@@ -123,6 +127,9 @@ fn send_input<'a, S: Stations>(
     match outcome {
         Ok(()) => Ok(()),
         Err(_) if is_over => Err(given_up(rt, &progress.tally, first.file, kind)),
+        Err(SendFault::Write) if feed.is_open() => {
+            Err(FeedFault::Silent.failure().in_feed(first.file, server))
+        }
         Err(fault) => Err(
             Failure::of(fault.reason())
                 .in_feed(first.file, server)
@@ -186,6 +193,33 @@ fn send_over<'a, S: Stations>(
     }
 }
 
+/// Has the system end what waits for longer.
+fn bounded(stream: TcpStream, limit: Duration) -> io::Result<TcpStream> {
+    stream.set_write_timeout(Some(limit))?;
+    stream.set_read_timeout(Some(limit))?;
+    Ok(stream)
+}
+
+/// A connection to a server, which takes at most so long to be made, and then to take or to end something.
+fn connected<'a>(
+    rt: &HostRuntime,
+    server: ServerAddress<'a>,
+    limit: Option<Duration>,
+) -> Result<TcpStream, Incident<'a>> {
+    let Some(limit) = limit else {
+        return connection(rt, server);
+    };
+    let address = SocketAddr::V4(server.endpoint.socket_address());
+    let made = match TcpStream::connect_timeout(rt, &address, limit) {
+        Ok(stream) => bounded(stream, limit),
+        Err(reason) => Err(reason),
+    };
+    match made {
+        Ok(stream) => Ok(stream),
+        Err(reason) => Err(unconnected(server, reason)),
+    }
+}
+
 /// Connects to a server, sends it the records of files, of which the first is open, and shuts the sending half of the
 /// connection.
 fn send_open<'a, S: Stations>(
@@ -199,7 +233,7 @@ fn send_open<'a, S: Stations>(
 ) -> Result<SentFeed, Incident<'a>>
     ensures { IfOk result (λ feed. feed.count ≡ progress.new.sent.count) }
 {
-    let stream = connection(rt, server)?;
+    let stream = connected(rt, server, rules.limit)?;
     let feed = Feed::new(stream);
     send_over(rt, feed, rules, progress, file, first, others, server.word)
 }
@@ -299,6 +333,14 @@ fn first_record(from: Option<usize>) -> u64
     }
 }
 
+/// So many seconds.
+fn limit_of(timeout: Option<usize>) -> Option<Duration> {
+    match timeout {
+        Some(seconds) => Some(Duration::from_secs(seconds as u64)),
+        None => None,
+    }
+}
+
 /// Sends the records of files to a server that has records of these stations, and tells what came of it.
 fn feed_by<'a, S: Stations>(
     rt: &HostRuntime,
@@ -312,6 +354,7 @@ fn feed_by<'a, S: Stations>(
         stations,
         is_strict: options.is_strict,
         skips: options.skips,
+        limit: limit_of(options.timeout),
     };
     let mut progress = FeedProgress::new();
     match send_and_wait(
