@@ -113,6 +113,25 @@ impl Display for FileLine<'_, '_> {
     }
 }
 
+/// That a folder has no file that is checked, as standard error is told.
+#[derive(Clone, Copy)]
+struct EmptyFolder<'a> {
+    path: &'a str,
+    /// How many names were passed over.
+    passed: usize,
+}
+
+impl Display for EmptyFolder<'_> {
+    fn fmt<W: Write>(&self, f: &mut Formatter<W>) -> fmt::Result {
+        let mut line = ShownLine::new(f);
+        write!(line, "seedlinkd: nothing to check in {}", self.path)?;
+        match self.passed {
+            0 => Ok(()),
+            passed => write!(line, ", where {passed} were passed over"),
+        }
+    }
+}
+
 /// A folder whose files can't be listed.
 fn unlisted<'a>(fault: UnlistedFolder) -> Incident<'a> {
     found_unopened(fault.path, fault.reason)
@@ -136,10 +155,19 @@ fn add_folder<'a>(
         return Err(Incident::out_of_memory());
     };
     match files_below(rt, path) {
-        Ok(files) => match add_files(names, files) {
-            Ok(()) => Ok(()),
-            Err(_) => Err(Incident::out_of_memory()),
-        },
+        Ok(found) => {
+            if found.files.is_empty() {
+                let line = EmptyFolder {
+                    path: folder,
+                    passed: found.passed,
+                };
+                let _ = eprintln!(rt; "{line}");
+            }
+            match add_files(names, found.files) {
+                Ok(()) => Ok(()),
+                Err(_) => Err(Incident::out_of_memory()),
+            }
+        }
         Err(fault) => Err(unlisted(fault)),
     }
 }
