@@ -31,7 +31,7 @@ WORDS = [
     ("GE_APE", TIMES, "TIME 2024,02,29,00,00,00"),
     ("GE_APE@a3", TIMES, "DATA 0000A3 2024,02,29,00,00,00"),
     ("GE_APE@a3", TIMES + " --fetch", "FETCH 0000A3 2024,02,29,00,00,00"),
-    ("GE_APE", TIMES + " --end 2024,3,1", "TIME 2024,02,29,00,00,00 2024,3,1"),
+    ("GE_APE", TIMES + " --end 2024,3,1,0,0,0", "TIME 2024,02,29,00,00,00 2024,3,1,0,0,0"),
     ("GE_APE", "--begin 2024-02-29T00:00:02.0900Z", "TIME 2024,02,29,00,00,02"),
     ("GE_APE", "--begin 2024-02-29T12:30", "TIME 2024,02,29,12,30"),
 ]
@@ -156,6 +156,17 @@ class Wants(scripted.Test):
         ended = self.run_program("read", server.address, word, *options.split())
         self.assertEqual(ended.all(), "status 0")
         self.assertEqual(server.commands(), HELLO + asked.encode() + END)
+
+    @kit.unreleased
+    @kit.rows([
+        ("a day", "2024,3,1", "2024,3,1,23,59,59"),
+        ("a date", "2024-03-01", "2024,03,01,23,59,59"),
+        ("a minute", "2024-03-01T07:00", "2024,03,01,07,00"),
+    ])
+    def test_an_end(self, word, asked):
+        server, = self.scripted(GREETED + b"OK\r\n" * 2, b"END")
+        self.run_program("read", server.address, "GE_APE", "--begin", "2024,2,29", "--end", word)
+        self.assertIn(b"TIME 2024,2,29 %s\r" % asked.encode(), server.commands())
 
     @kit.rows([("%s %s" % it[:2], *it) for it in WRONG])
     def test_wrong_word(self, word, options, part):

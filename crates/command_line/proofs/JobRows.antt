@@ -278,6 +278,7 @@ plain_read =
       wants_file = None;
       state = None;
       is_iso = false;
+      is_quiet = false;
     }
 
 abbrev read_words : List Text
@@ -332,6 +333,11 @@ pub timeout_asked : job_of timeout_words
     ≡ Some (Read (codes "a,b") (codes "GE_WLF" ∷ []) (record plain_read { timeout = Some 30 }))
 unfolding clap_on_literals
 timeout_asked = refl
+
+pub quiet_read_asked : job_of (codes "seedlinkd" ∷ codes "read" ∷ codes "a" ∷ codes "GE_WLF" ∷ codes "--quiet" ∷ [])
+    ≡ Some (Read (codes "a") (codes "GE_WLF" ∷ []) (record plain_read { is_quiet = true }))
+unfolding clap_on_literals
+quiet_read_asked = refl
 
 pub listed_asked : job_of (codes "seedlinkd" ∷ codes "read" ∷ codes "a" ∷ codes "--wants=w" ∷ [])
     ≡ Some (Read (codes "a") [] (record plain_read { wants_file = Some (codes "w") }))

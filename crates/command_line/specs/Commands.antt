@@ -134,6 +134,7 @@ read_app = app_by (codes "read") (
     ∷ option false (codes "archive")
     ∷ option false (codes "state")
     ∷ flag_rule (codes "iso")
+    ∷ flag_rule (codes "quiet")
     ∷ option false (codes "output")
     ∷ [])
 

@@ -57,6 +57,7 @@ pub record ReadAsked : Type 0 where
   pub wants_file : Option (List ℕ)
   pub state : Option (List ℕ)
   pub is_iso : Bool
+  pub is_quiet : Bool
 
 -- those that the code has
 abbrev pub options_asked : ReadOptions → ReadAsked
@@ -72,6 +73,7 @@ options_asked o =
       wants_file = option_map (λ text. text.now) o.wants_file;
       state = option_map (λ text. text.now) o.state;
       is_iso = o.is_iso;
+      is_quiet = o.is_quiet;
     }
 
 -- the words of `serve`
@@ -136,9 +138,9 @@ pub record FeedAsked : Type 0 where
   pub config : Option (List ℕ)
   pub is_strict : Bool
   pub skips : Bool
+  pub timeout : Option ℕ
 
 -- those that the code has
-  pub timeout : Option ℕ
 abbrev pub feed_options_asked : FeedOptions → FeedAsked
 feed_options_asked o =
     record {
@@ -146,9 +148,9 @@ feed_options_asked o =
       config = option_map (λ text. text.now) o.config;
       is_strict = o.is_strict;
       skips = o.skips;
+      timeout = o.timeout;
     }
 
-      timeout = o.timeout;
 -- A job as texts and numbers.
 pub data Asked : Type 0 where
   Check : (files : List (List ℕ)) → (options : CheckAsked) → Asked
@@ -313,9 +315,9 @@ feed_options_with (Some from) (Some timeout) rows =
       config = first_of (codes "config") rows;
       is_strict = flag_in (codes "strict") rows;
       skips = flag_in (codes "skip") rows;
+      timeout = timeout;
     })
 
-      timeout = timeout;
 abbrev pub feed_options_in : List Row → Option FeedAsked
 feed_options_in rows = feed_options_with (number_in (codes "from") rows) (number_in (codes "timeout") rows) rows
 
@@ -347,6 +349,7 @@ options_with (Some retry) (Some timeout) rows =
       wants_file = first_of (codes "wants") rows;
       state = first_of (codes "state") rows;
       is_iso = flag_in (codes "iso") rows;
+      is_quiet = flag_in (codes "quiet") rows;
     })
 
 abbrev pub options_in : List Row → Option ReadAsked

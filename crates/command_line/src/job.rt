@@ -144,6 +144,8 @@ pub struct ReadOptions<'a> {
     pub state: Option<&'a str>,
     /// `--iso`: times as dates and times of the day.
     pub is_iso: bool,
+    /// `--quiet`: no lines of packets.
+    pub is_quiet: bool,
 }
 
 /// A job, and how much is said of what goes wrong with it.

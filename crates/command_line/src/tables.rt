@@ -95,7 +95,7 @@ pub static FEED: [Argument<'static>; 7] = [
     ),
 ];
 
-pub static READ: [Argument<'static>; 12] = [
+pub static READ: [Argument<'static>; 13] = [
     Wanted(
         "SERVER",
         "Addresses and ports for clients, as 127.0.0.1:18000,127.0.0.2:18000",
@@ -142,6 +142,7 @@ pub static READ: [Argument<'static>; 12] = [
         "Goes on after the packets that FILE tells of, and keeps there how far it is; it locks FILE.lock",
     ),
     Flag("iso", ISO_HELP),
+    Flag("quiet", "Writes no lines of packets"),
     Value(
         "output",
         "FILE",

@@ -267,6 +267,7 @@ pub fn read_options<'a>(arguments: &ArgMatches<'a>) -> Option<ReadOptions<'a>>
         wants_file: text_at(arguments, "wants"),
         state: text_at(arguments, "state"),
         is_iso: has_flag(arguments, "iso"),
+        is_quiet: has_flag(arguments, "quiet"),
     })
 }
 

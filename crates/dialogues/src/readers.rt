@@ -3,7 +3,7 @@ use crate::clients::{DialogueAnswer, compare_numbers};
 use crate::fault::Fault;
 use crate::line::{DialogueLine, number_of};
 use crate::spelling::{shown, spelled};
-use reader_run::{Nowhere, Times, read_over};
+use reader_run::{Nowhere, PacketLines, Times, read_over};
 use sl_io::{MemorySink, MemorySource};
 use slreader::{Plan, Want, Window};
 use std::alloc::Global;
@@ -37,7 +37,7 @@ fn read_in(alloc: Global, wants: &str, sent: &[u8], most: usize) -> Result<Dialo
     let mut out = MemorySink::new(alloc);
     let read = read_over(
         alloc,
-        Times::Ticks,
+        PacketLines::Each(Times::Ticks),
         plan_of(alloc, wants)?,
         &mut reader,
         &mut writer,

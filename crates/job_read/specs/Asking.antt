@@ -1,9 +1,14 @@
 -- When wants that a server refused are asked again, and whether a reader tells what it meets.
-use Rattle.std.specs.Prelude.{ℕ, ◌-◌, Bool, ◌||◌}
+use Rattle.std.specs.Prelude.{ℕ, ◌-◌, Bool, ◌||◌, if◌then◌else◌}
 
--- how many milliseconds a connection still lasts on which a want was refused at that moment: it ends after an hour
-abbrev pub left_after : (refused now : ℕ) → ℕ
-left_after refused now = 3600000 - (now - refused)
+-- for how many milliseconds a connection lasts on which a want was refused: an hour, or a minute if the server is not
+-- the first of the list
+abbrev pub renewal_of : (is_first : Bool) → ℕ
+renewal_of is_first = if is_first then 3600000 else 60000
+
+-- how many of them are left, if that was at a moment
+abbrev pub left_after : (is_first : Bool) → (refused now : ℕ) → ℕ
+left_after is_first refused now = renewal_of is_first - (now - refused)
 
 -- An archive, a state, another try or explanations are asked for.
 abbrev pub is_told : (has_archive has_state is_retried is_verbose : Bool) → Bool

@@ -1,40 +1,21 @@
--- What is told of the lines that a reader lists: each want that is refused, and each jump in the numbers of a station
--- of which all records are asked for. Left out: records that can't be read, which are of no station.
-use Rattle.std.specs.Prelude.{◌≡◌, ℕ, ◌+◌, Bool, false, ◌&&◌, ◌||◌, not, ◌==◌, nat_lt}
-use Rattle.std.specs.Prelude.{if◌then◌else◌, codes, length}
-use Rattle.std.specs.Prelude.{List, [], ◌∷◌, ◌++◌, map, Option, Some, None, option_map, is_none}
+-- What is reported of what a reader is given: each want that is refused, and each jump in the numbers of a station of
+-- which all records are asked for, with the time that is missing there. Left out: records that can't be read, which are
+-- of no station, and which packets came of a stream before.
+use Rattle.std.specs.Prelude.{ℕ, ◌+◌, ◌-◌, ◌^◌, Bool, true, false, ◌&&◌, ◌||◌, not, ◌==◌, min}
+use Rattle.std.specs.Prelude.{if◌then◌else◌, length, List, Option, Some, None, option_map, is_none}
 use Rattle.std.specs.List.{list_all}
 use Rattle.std.specs.Str.{bytes_eq}
-use Rattle.protocol.specs.Packet.{next_number, number_of}
-use Rattle.protocol.specs.Pieces.{split}
+use Rattle.protocol.specs.Packet.{next_number}
 use Rattle.slreader.specs.Wants.{Action, WantValue}
 use Rattle.slreader.specs.Wants.Action.{Data, Fetch, Time}
-use Rattle.slreader.specs.Tallies.{TallyValue, ReachedValue, reached_of}
-use Rattle.job_read.specs.declared.line.ListedLine.{ListedLine}
-use Rattle.job_read.specs.declared.line.ListedLine.TheVariants as line
-use Rattle.job_read.specs.Notices.{NoticeValue}
-use Rattle.job_read.specs.Notices.NoticeValue.{Refused, Gap}
+use Rattle.slreader.specs.Tallies.{ReachedValue}
+use Rattle.job_read.specs.Unplaced.{has_passed}
+use Rattle.job_read.specs.declared.jumps.TimeBefore.{TimeBefore}
+use Rattle.job_read.specs.declared.jumps.TimeBefore.TheVariants.{Unknown, Whole, Missing}
+use Rattle.job_read.specs.declared.jumps.JumpEvent.{JumpEvent}
+use Rattle.job_read.specs.declared.jumps.JumpEvent.TheVariants.{Gap, Renumbered}
 
--- ---- stations
-
--- a station of which all records are asked for, and the number of its last packet
-pub record StationValue : Type 0 where
-  pub network : List ℕ
-  pub station : List ℕ
-  pub last : Option ℕ
-
--- it has these codes
-abbrev pub is_station : (network station : List ℕ) → StationValue → Bool
-is_station network station s = bytes_eq s.network network && bytes_eq s.station station
-
--- after a packet with that number, of the station with these codes
-abbrev pub passed : (number : ℕ) → (network station : List ℕ) → StationValue → StationValue
-passed number network station s = if is_station network station s then record s { last = Some number } else s
-
--- the number of the last packet of the station with these codes, if it is one of these
-abbrev pub last_of : (network station : List ℕ) → List StationValue → Option ℕ
-last_of network station [] = None
-last_of network station (s ∷ ss) = if is_station network station s then s.last else last_of network station ss
+-- ---- wants
 
 -- No moment is asked for.
 abbrev pub is_open : Action → Bool
@@ -54,99 +35,64 @@ spares network station w = not (bytes_eq w.network network && bytes_eq w.station
 abbrev pub are_whole : (network station : List ℕ) → List WantValue → Bool
 are_whole network station wants = list_all (spares network station) wants
 
--- the station of a want, after its last packet
-abbrev pub station_of : WantValue → Option ReachedValue → StationValue
-station_of w reached =
-    record { network = w.network; station = w.station; last = option_map (λ (r : ReachedValue). r.number) reached }
+-- ---- jumps
 
--- the station of a want before others, if all of its records are asked for
-abbrev pub station_before : (all : List WantValue) → WantValue → Option ReachedValue → List StationValue
-    → List StationValue
-station_before all w reached ss = if are_whole w.network w.station all then station_of w reached ∷ ss else ss
+-- a number of a station right after which another one came that is not the next, and whether it was reported that time
+-- is missing between them
+pub record JumpValue : Type 0 where
+  pub last : ℕ
+  pub next : ℕ
+  pub is_told : Bool
 
--- the stations of wants, of which the first has that place
-abbrev pub stations_from : TallyValue → (all : List WantValue) → ℕ → List WantValue → List StationValue
-stations_from t all place [] = []
-stations_from t all place (w ∷ ws) = station_before all w (reached_of t place) (stations_from t all (place + 1) ws)
+-- the number of the last packet of a station, and its last jump
+pub record NumbersValue : Type 0 where
+  pub last : Option ℕ
+  pub jump : Option JumpValue
 
--- ---- lines
+-- before the first packet, after the one that was reached
+abbrev pub begun_numbers : Option ReachedValue → NumbersValue
+begun_numbers reached = record { last = option_map (λ (r : ReachedValue). r.number) reached; jump = None }
 
--- What a line says: a want of that station is refused, or a packet of it came that has this number.
-pub data LineValue : Type 0 where
-  RefusedLine : (network station : List ℕ) → LineValue
-  PacketLine : (number : ℕ) → (network station : List ℕ) → LineValue
-  OtherLine : LineValue
+-- A packet with that number doesn't follow on the last one.
+abbrev pub is_jump_after : Option ℕ → (number : ℕ) → Bool
+is_jump_after None number = false
+is_jump_after (Some last) number = not (next_number last == number)
 
-abbrev pub line_value : ListedLine → LineValue
-line_value (line.Refused network station) = RefusedLine network.now station.now
-line_value (line.Packet number network station) = PacketLine number network.now station.now
-line_value line.Other = OtherLine
+-- the last jump, with a packet
+abbrev pub jump_with : Option JumpValue → Option ℕ → (number : ℕ) → Option JumpValue
+jump_with jump None number = jump
+jump_with jump (Some last) number =
+    if next_number last == number then jump else Some (record { last = last; next = number; is_told = false })
 
--- a packet with these digits
-abbrev pub packet_line : Option ℕ → (network station : List ℕ) → LineValue
-packet_line None network station = OtherLine
-packet_line (Some number) network station = PacketLine number network station
+abbrev pub numbers_with : NumbersValue → (number : ℕ) → NumbersValue
+numbers_with n number = record { last = Some number; jump = jump_with n.jump n.last number }
 
--- what its first words say
-abbrev pub line_of_words : List (List ℕ) → LineValue
-line_of_words [] = OtherLine
-line_of_words (a ∷ []) = OtherLine
-line_of_words (a ∷ b ∷ []) = OtherLine
-line_of_words (a ∷ b ∷ c ∷ ws) = if bytes_eq a (codes "refused") then RefusedLine b c else packet_line (number_of a) b c
+-- What is reported at a packet, by whether its number jumped, the time before it in its stream since the last packet of
+-- that, and the last jump: time that is missing, once; or a jump at which the time is not known, or none is missing.
+abbrev pub event_at : (is_jump : Bool) → TimeBefore → Option JumpValue → Option JumpEvent
+event_at is_jump before None = None
+event_at is_jump (Missing ticks) (Some j) = if j.is_told then None else Some (Gap j.last j.next (Some ticks))
+event_at is_jump Unknown (Some j) = if is_jump then Some (Gap j.last j.next None) else None
+event_at is_jump Whole (Some j) = if is_jump then Some (Renumbered j.last j.next) else None
 
--- The text begins with that word.
-abbrev pub IsFirstWord : (word text : List ℕ) → Type 0
-IsFirstWord word text = (ws : List (List ℕ)) × (split (λ b. b == 32) text ≡ word ∷ ws)
+-- the last jump after that
+abbrev pub jump_told : Option JumpEvent → Option JumpValue → Option JumpValue
+jump_told (Some (Gap last next missing)) jump = option_map (λ (j : JumpValue). record j { is_told = true }) jump
+jump_told (Some (Renumbered last next)) jump = jump
+jump_told None jump = jump
 
--- what the text of a line says
-abbrev pub line_of : List ℕ → LineValue
-line_of text = line_of_words (split (λ b. b == 32) text)
+-- ---- how often
 
--- ---- what is told
+-- when a line was written last, in milliseconds, and how many were left out since
+pub record LimitValue : Type 0 where
+  pub at : Option ℕ
+  pub more : ℕ
 
--- a packet after the last one of its station
-abbrev pub jump_told : Option ℕ → (number : ℕ) → (network station : List ℕ) → List NoticeValue
-jump_told None number network station = []
-jump_told (Some last) number network station =
-    if next_number last == number then [] else Gap network station last number ∷ []
+-- how many were left out before, if a line may be written: none was within an hour
+abbrev pub allowed : LimitValue → (now : ℕ) → Option ℕ
+allowed l now = if has_passed l.at now then Some l.more else None
 
-abbrev pub line_told : List StationValue → LineValue → List NoticeValue
-line_told ss (RefusedLine network station) = Refused network station ∷ []
-line_told ss (PacketLine number network station) = jump_told (last_of network station ss) number network station
-line_told ss OtherLine = []
-
--- the stations after a line
-abbrev pub after_line : List StationValue → LineValue → List StationValue
-after_line ss (RefusedLine network station) = ss
-after_line ss (PacketLine number network station) = map (passed number network station) ss
-after_line ss OtherLine = ss
-
--- the stations, and the first bytes of the line under way
-pub record HearingValue : Type 0 where
-  pub stations : List StationValue
-  pub head : List ℕ
-
--- the first 32 bytes of a line, with one more
-abbrev pub held : List ℕ → ℕ → List ℕ
-held head byte = if nat_lt (length head) 32 then head ++ byte ∷ [] else head
-
--- after a byte of the lines
-abbrev pub after_byte : HearingValue → ℕ → HearingValue
-after_byte h byte =
-    if byte == 10
-    then record { stations = after_line h.stations (line_of h.head); head = [] }
-    else record h { head = held h.head byte }
-
--- what is told at a byte
-abbrev pub byte_told : HearingValue → ℕ → List NoticeValue
-byte_told h byte = if byte == 10 then line_told h.stations (line_of h.head) else []
-
--- after bytes
-abbrev pub after_bytes : HearingValue → List ℕ → HearingValue
-after_bytes h [] = h
-after_bytes h (b ∷ bs) = after_bytes (after_byte h b) bs
-
--- what is told at bytes
-abbrev pub bytes_told : HearingValue → List ℕ → List NoticeValue
-bytes_told h [] = []
-bytes_told h (b ∷ bs) = byte_told h b ++ bytes_told (after_byte h b) bs
+abbrev pub limit_after : LimitValue → (now : ℕ) → LimitValue
+limit_after l now =
+    if has_passed l.at now then record { at = Some now; more = 0 }
+    else record l { more = min (l.more + 1) (2 ^ 64 - 1) }

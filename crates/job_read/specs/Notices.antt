@@ -4,15 +4,20 @@ use Rattle.job_read.specs.declared.notices.Notice.{Notice}
 use Rattle.job_read.specs.declared.notices.Notice.TheVariants as notice
 
 -- What is told: a want that a server refuses; two numbers of a station, one right after the other, between which some
--- are missing; and how many records in all have no place in an archive.
+-- are missing, and with them time, in ticks if that is known, or none, and how many such lines were left out before; and
+-- how many records in all have no place in an archive.
 pub data NoticeValue : Type 0 where
   Refused : (network station : List ℕ) → NoticeValue
-  Gap : (network station : List ℕ) → (last next : ℕ) → NoticeValue
+  Gap : (network station : List ℕ) → (last next : ℕ) → (missing : Option ℕ) → (more : ℕ) → NoticeValue
+  Renumbered : (network station : List ℕ) → (last next : ℕ) → (more : ℕ) → NoticeValue
   Unplaced : (count : ℕ) → NoticeValue
 
 abbrev pub notice_value : Notice → NoticeValue
 notice_value (notice.Refused network station) = Refused network.now station.now
-notice_value (notice.Gap network station last next) = Gap network.now station.now last next
+notice_value (notice.Gap network station last next missing more) =
+    Gap network.now station.now last next missing more
+notice_value (notice.Renumbered network station last next more) =
+    Renumbered network.now station.now last next more
 notice_value (notice.Unplaced count) = Unplaced count
 
 -- What was told is these more, as far as it is known.

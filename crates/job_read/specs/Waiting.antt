@@ -1,7 +1,7 @@
 -- How far a connection is, by the bytes that went over it, and what it means that the server is silent there.
 -- SeedLink 3: each command but END has an answer; after END data packets of 520 bytes come. Left out: the answer to a
 -- command in more than one line, of which the last one counts.
-use Rattle.std.specs.Prelude.{ℕ, ◌+◌, ◌-◌, ◌*◌, ◌%◌, Bool, true, false, ◌||◌, not, ◌==◌, nat_le, nat_lt, min}
+use Rattle.std.specs.Prelude.{ℕ, ◌+◌, ◌-◌, ◌*◌, ◌%◌, Bool, true, false, ◌&&◌, ◌||◌, not, ◌==◌, nat_le, nat_lt, min}
 use Rattle.std.specs.Prelude.{if◌then◌else◌, List, [], ◌∷◌, Option, Some, None, option_map}
 use Rattle.job_read.specs.declared.course.SentCommand.{SentCommand}
 use Rattle.job_read.specs.declared.course.SentCommand.TheVariants.{Begun, E, En, End, Other}
@@ -48,19 +48,22 @@ after_sent c (b ∷ bs) = after_sent (after_sent_byte c b) bs
 abbrev pub after_received : CourseValue → ℕ → CourseValue
 after_received c count = if c.is_transfer then record c { packet = (c.packet % 520 + count % 520) % 520 } else c
 
+-- So many bytes more bring a packet to its end.
+abbrev pub completes : CourseValue → ℕ → Bool
+completes c count = c.is_transfer && nat_le (520 - c.packet % 520) count
+
 -- The server owes something: an answer, or the rest of a packet.
 abbrev pub is_owed : CourseValue → Bool
 is_owed c = not c.is_transfer || not (c.packet == 0)
 
 -- ---- silence
 
--- What it means between two packets: with `--fetch` the server has more to send, or the end; a window is over if a time
--- limit was asked for; and otherwise there may be no record for long.
-abbrev pub silence_between : (is_fetch is_window has_timeout : Bool) → Silence
-silence_between true is_window has_timeout = Fault
-silence_between false true true = Over
-silence_between false true false = Usual
-silence_between false false has_timeout = Usual
+-- What it means between two packets: with `--fetch` the server has more to send, or the end; a window is over; and
+-- otherwise there may be no record for long.
+abbrev pub silence_between : (is_fetch is_window : Bool) → Silence
+silence_between true is_window = Fault
+silence_between false true = Over
+silence_between false false = Usual
 
 -- what it means now
 abbrev pub silence_now : Silence → CourseValue → Silence
@@ -74,11 +77,11 @@ limit_of limit Over = limit
 
 -- ---- time limits
 
--- After how many seconds of silence a server is left: as asked for, and otherwise after 60 if there is another server
--- or the same one is asked again.
-abbrev pub time_limit : (timeout : Option ℕ) → (count : ℕ) → (is_retried : Bool) → Option ℕ
-time_limit (Some seconds) count is_retried = Some seconds
-time_limit None count is_retried = if is_retried || nat_lt 1 count then Some 60 else None
+-- After how many seconds of silence a server is left: as asked for, and otherwise after 60 if there is another server,
+-- the same one is asked again, or a window ends.
+abbrev pub time_limit : (timeout : Option ℕ) → (count : ℕ) → (is_retried is_window : Bool) → Option ℕ
+time_limit (Some seconds) count is_retried is_window = Some seconds
+time_limit None count is_retried is_window = if is_retried || is_window || nat_lt 1 count then Some 60 else None
 
 -- how many seconds pass before the next server is asked
 abbrev pub pause : (retry : Option ℕ) → ℕ

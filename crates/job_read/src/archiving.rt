@@ -264,6 +264,8 @@ impl RecordSink for ToldArchive<'_> {
         self.archive.get_mut().begin();
     }
 
+    fn refuse(&mut self, _want: usize) {}
+
     fn put(&mut self, packet: &GivenPacket<'_>) -> Result<(), SinkFault> {
         if self.unlocked.is_some() {
             self.failures = self.failures.wrapping_add(1);
@@ -445,6 +447,8 @@ impl RecordSink for ToldOutput<'_> {
         self.renew_lock();
         self.output.get_mut().begin();
     }
+
+    fn refuse(&mut self, _want: usize) {}
 
     fn put(&mut self, packet: &GivenPacket<'_>) -> Result<(), SinkFault> {
         if self.unlocked.is_some() {

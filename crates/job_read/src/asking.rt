@@ -1,5 +1,6 @@
 //! When wants that a server refused are asked again: a connection on which one was refused ends after an hour, so that
-//! the next one asks for it once more. And how a connection is read that ends so, or for its silence.
+//! the next one asks for it once more; after a minute if the server is not the first of the list, which is asked again
+//! then. And how a connection is read that ends so, or for its silence.
 ghost use Rattle.std.specs.Prelude.{◌≡◌};
 ghost use Rattle.std.specs.Io.{ReadsAtMost};
 ghost use Rattle.job_read.specs.Asking.{left_after};
@@ -13,17 +14,23 @@ use std::io::{self, ErrorKind, Read};
 /// How many milliseconds a connection lasts on which a want was refused.
 const HOUR: u64 = 3_600_000;
 
-/// How many of them are left, if that was at a moment.
-fn left_after(refused: u64, now: u64) -> u64
-    ensures { result ≡ left_after refused now }
+/// The same of a server that is not the first of the list; and after how many of them it is told that nothing comes.
+const MINUTE: u64 = 60_000;
+
+/// How many milliseconds are left of a connection on which a want was refused at a moment.
+fn left_after(is_first: bool, refused: u64, now: u64) -> u64
+    ensures { result ≡ left_after is_first refused now }
 {
-    HOUR.saturating_sub(now.saturating_sub(refused))
+    let limit = if is_first { HOUR } else { MINUTE };
+    limit.saturating_sub(now.saturating_sub(refused))
 }
 
 /// When the wants are asked again that are refused on the connection that is read.
 #[derive(Drop)]
 pub struct Renewal {
     is_retried: bool,
+    /// Whether the server is the first of the list.
+    is_first: Cell<bool>,
     /// When the first of them was refused, in milliseconds.
     refused: Cell<Option<u64>>,
 }
@@ -33,12 +40,14 @@ impl Renewal {
     pub fn new(is_retried: bool) -> Renewal {
         Renewal {
             is_retried,
+            is_first: Cell::new(true),
             refused: Cell::new(None),
         }
     }
 
-    /// Another connection is made, on which nothing was refused yet.
-    pub fn begin(&self) {
+    /// Another connection is made, on which nothing was refused yet, to the first server of the list or not.
+    pub fn begin(&self, is_first: bool) {
+        self.is_first.set(is_first);
         self.refused.set(None);
     }
 
@@ -52,7 +61,7 @@ impl Renewal {
     /// How many milliseconds the connection still lasts, if it ends so that wants are asked again.
     fn left(&self, rt: &HostRuntime) -> Option<u64> {
         let refused = self.refused.get()?;
-        Some(left_after(refused, milliseconds(rt)))
+        Some(left_after(self.is_first.get(), refused, milliseconds(rt)))
     }
 
     /// Whether it is over by that.
@@ -61,35 +70,53 @@ impl Renewal {
     }
 }
 
-/// Reads what comes at a connection until it is over.
+/// Reads what comes at a connection until it is over. If nothing comes for a minute, that is told once.
 #[derive(Drop)]
 pub struct RenewedReader<'r> {
     inlet: &'r Inlet,
     rt: &'r HostRuntime,
     renewal: &'r Renewal,
     patience: &'r Patience,
+    /// Whether it is to be told yet that nothing comes.
+    is_told: bool,
 }
 
 impl<'r> RenewedReader<'r> {
-    /// What comes at `inlet`.
+    /// What comes at `inlet`. That nothing comes is told or not.
     pub fn new(
         inlet: &'r Inlet,
         rt: &'r HostRuntime,
         renewal: &'r Renewal,
         patience: &'r Patience,
+        is_told: bool,
     ) -> RenewedReader<'r> {
         RenewedReader {
             inlet,
             rt,
             renewal,
             patience,
+            is_told,
         }
     }
 
-    /// How many milliseconds the connection still lasts if nothing has come since a moment.
-    fn left(&self, begun: u64) -> Option<u64> {
-        let silence = self.patience.left(begun, milliseconds(self.rt));
+    /// How many milliseconds the connection still lasts if something is waited for since a moment.
+    fn left(&self, since: u64, now: u64) -> Option<u64> {
+        let silence = self.patience.left(since, now);
         shorter(self.renewal.left(self.rt), silence)
+    }
+
+    /// How many milliseconds there are until it is told that nothing has come since a moment. It is told if that is now.
+    fn left_to_tell(&mut self, begun: u64, now: u64) -> Option<u64> {
+        if !self.is_told {
+            return None;
+        }
+        let left = MINUTE.saturating_sub(now.saturating_sub(begun));
+        if left > 0 {
+            return Some(left);
+        }
+        self.is_told = false;
+        let _ = eprintln!(self.rt; "seedlinkd: nothing has come for 60 s; waiting");
+        None
     }
 
     /// The connection is over.
@@ -115,11 +142,14 @@ impl RenewedReader<'_> {
         ensures { ReadsAtMost result block.new }
     {
         let begun = milliseconds(self.rt);
+        let since = self.patience.since(begun);
         for _ in 0..u64::MAX {
-            let left = self.left(begun);
+            let now = milliseconds(self.rt);
+            let left = self.left(since, now);
             if left == Some(0) {
                 break;
             }
+            let left = shorter(left, self.left_to_tell(begun, now));
             match self.inlet.read(block, left) {
                 Err(reason) if reason.kind() == ErrorKind::WouldBlock => {}
                 read => return read,

@@ -88,7 +88,8 @@ fn sides<'r>(
     notice_silence(&stream)?;
     let writer = stream.try_clone()?;
     inlet.open(rt.alloc(), stream)?;
-    let reader = RenewedReader::new(inlet, rt, &reading.renewal, &reading.patience);
+    let (renewal, patience) = (&reading.renewal, &reading.patience);
+    let reader = RenewedReader::new(inlet, rt, renewal, patience, reading.is_shown());
     Ok((
         Outer::new(AnswerCounter::new(reader)),
         Outer::new(CommandWriter::new(writer, &reading.patience)),
@@ -141,11 +142,11 @@ impl<'r, 'a, 'w> Servers for ServersInTurn<'r, 'a, 'w> {
     ghost told = { λ _. None };
 
     fn connect(&mut self) -> Result<Connected<'r>, Incident<'a>> {
-        self.reading.renewal.begin();
         self.reading.patience.begin();
         self.reading.moment.connect();
         for _ in 0..u64::MAX {
             let server = self.server()?;
+            self.reading.renewal.begin(self.places.place() == 0);
             match connected(self.rt, server, self.inlet, self.reading) {
                 Ok(sides) => return Ok(sides),
                 Err(incident) => self.go_on_after(incident)?,
@@ -162,7 +163,8 @@ impl<'r, 'a, 'w> Servers for ServersInTurn<'r, 'a, 'w> {
     ) -> Result<(), Incident<'a>> {
         self.inlet.close();
         if fault == ListingFault::Read && self.reading.renewal.is_over(self.rt) {
-            // The same server is asked again, for what was refused too.
+            // The first server is asked again, for what was refused too.
+            self.places.restart();
             return Ok(());
         }
         let patience = &self.reading.patience;

@@ -69,7 +69,7 @@ impl Model for Course {
 
 impl Course {
     ghost use Rattle.std.specs.Prelude.{◌≡◌};
-    ghost use Rattle.job_read.specs.Waiting.{after_received, after_sent, after_sent_byte, is_owed, started};
+    ghost use Rattle.job_read.specs.Waiting.{after_received, after_sent, after_sent_byte, completes, is_owed, started};
 
     /// No byte went over it.
     pub fn new() -> Course
@@ -110,6 +110,13 @@ impl Course {
         if self.is_transfer {
             self.packet = (self.packet % PACKET + count % PACKET) % PACKET;
         }
+    }
+
+    /// Whether so many bytes more bring a packet to its end.
+    pub fn completes(&self, count: usize) -> bool
+        ensures { result ≡ completes self.now count }
+    {
+        self.is_transfer && count >= PACKET - self.packet % PACKET
     }
 
     /// Whether the server owes something: an answer, or the rest of a packet.

@@ -5,42 +5,14 @@ ghost use Rattle.reader_run.specs.Following.{Follows};
 ghost use Rattle.reader_run.specs.Keeping.{KeepsBehind};
 ghost use Rattle.reader_run.specs.Visits.{EndsVisits, asking, progress};
 
-use crate::hearing::{HeardLines, LineListener};
-use crate::notices::{ErrorTeller, RefusalTeller};
 use crate::reading::Reading;
-use reader_run::{Break, Keeper, ListingFault, RecordSink, Servers, follow};
+use reader_run::{Break, Keeper, RecordSink, Servers, follow};
 use sl_io::Sink;
-use slreader::{ReaderFault, Tally};
+use slreader::Tally;
 use std::alloc::Global;
 
-/// Asks servers for what a reading wants. What is met is told, if it is to be.
-pub fn follow_any<S: Servers, O: Sink + Drop, P: RecordSink, K: Keeper<P>>(
-    rt: &HostRuntime,
-    reading: &Reading<'_, '_>,
-    tally: &mut Tally,
-    servers: &mut S,
-    out: O,
-    records: &mut P,
-    keeper: &mut K,
-) -> Result<(), Break<S::Fault>> {
-    if reading.is_told {
-        follow_told(rt, reading, tally, servers, out, records, keeper)
-    } else {
-        let mut out = out;
-        follow_with(
-            rt.alloc(),
-            reading,
-            tally,
-            servers,
-            &mut out,
-            records,
-            keeper,
-        )
-    }
-}
-
 /// Asks servers for what a reading wants.
-fn follow_with<S: Servers, O: Sink, P: RecordSink, K: Keeper<P>>(
+pub fn follow_with<S: Servers, O: Sink, P: RecordSink, K: Keeper<P>>(
     alloc: Global,
     reading: &Reading<'_, '_>,
     tally: &mut Tally,
@@ -49,13 +21,13 @@ fn follow_with<S: Servers, O: Sink, P: RecordSink, K: Keeper<P>>(
     records: &mut P,
     keeper: &mut K,
 ) -> Result<(), Break<S::Fault>>
-    ensures ends { OnOk result (EndsVisits (asking reading.now.wants.items reading.now.times)
+    ensures ends { OnOk result (EndsVisits (asking reading.now.wants.items reading.now.lines)
         (progress tally.old (O.written out.old) (O.failures out.old) (O.empty_writes out.old)
         (P.written records.old) (P.failures records.old) (P.empty_writes records.old) (K.failures keeper.old))
         (progress tally.new (O.written out.new) (O.failures out.new) (O.empty_writes out.new)
         (P.written records.new) (P.failures records.new) (P.empty_writes records.new) (K.failures keeper.new))
         (S.told servers.old) (S.told servers.new)) }
-    ensures stops { IfErr result (λ why. StopsVisits why (asking reading.now.wants.items reading.now.times)
+    ensures stops { IfErr result (λ why. StopsVisits why (asking reading.now.wants.items reading.now.lines)
         (progress tally.old (O.written out.old) (O.failures out.old) (O.empty_writes out.old)
         (P.written records.old) (P.failures records.old) (P.empty_writes records.old) (K.failures keeper.old))
         (progress tally.new (O.written out.new) (O.failures out.new) (O.empty_writes out.new)
@@ -66,37 +38,11 @@ fn follow_with<S: Servers, O: Sink, P: RecordSink, K: Keeper<P>>(
 {
     follow(
         alloc,
-        reading.times,
+        reading.lines,
         &reading.wants,
         tally,
         servers,
         out,
-        records,
-        keeper,
-    )
-}
-
-/// The same, and what is met is told.
-fn follow_told<'r, S: Servers, O: Sink + Drop, P: RecordSink, K: Keeper<P>>(
-    rt: &'r HostRuntime,
-    reading: &'r Reading<'_, '_>,
-    tally: &mut Tally,
-    servers: &mut S,
-    out: O,
-    records: &mut P,
-    keeper: &mut K,
-) -> Result<(), Break<S::Fault>> {
-    let Ok(listener) = LineListener::new(rt.alloc(), &reading.wants, tally) else {
-        return Err(Break::Listing(ListingFault::Reader(ReaderFault::OutOfMemory)));
-    };
-    let teller = RefusalTeller::new(ErrorTeller::new(rt), rt, &reading.renewal);
-    let mut out = HeardLines::new(out, listener, teller);
-    follow_with(
-        rt.alloc(),
-        reading,
-        tally,
-        servers,
-        &mut out,
         records,
         keeper,
     )

@@ -1,74 +1,20 @@
-//! What is told of the lines that a reader lists: each want that is refused, and each jump in the numbers of a station
-//! of which all records are asked for.
-ghost use Rattle.std.specs.Prelude.{◌≡◌, ◌==◌, ◌++◌, ◌∷◌, [], map, not, length, option_map, Option, IfOk, OnErr, OnOk};
-ghost use Rattle.std.specs.Prelude.{if◌then◌else◌, take};
-ghost use Rattle.std.specs.Io.{WritesAtMost};
-ghost use Rattle.std.specs.Io.KnownBytes.{WriteAppends};
-ghost use Rattle.std.specs.Str.{bytes_eq};
-ghost use Rattle.sl_io.specs.Counts.{IsMore, CountsFailure, CountsEmptyWrite};
-ghost use Rattle.protocol.specs.Packet.{next_number};
+//! What is reported of what a reader is given: each jump in the numbers of a station of which all records are asked for.
+ghost use Rattle.std.specs.Prelude.{◌≡◌, ◌&&◌};
 ghost use Rattle.slreader.specs.WantTexts.{action_value};
-ghost use Rattle.job_read.specs.Hearing.{after_byte, after_bytes, after_line, are_whole, byte_told, bytes_told, held};
-ghost use Rattle.job_read.specs.Hearing.{is_open, is_station, is_whole, jump_told, last_of, line_of, line_told, passed};
-ghost use Rattle.job_read.specs.Hearing.{spares, station_before, station_of, stations_from};
-ghost use Rattle.job_read.specs.Notices.{Tells};
+ghost use Rattle.job_read.specs.Hearing.{are_whole, is_open, is_whole, spares};
 
-use crate::line::{ListedLine, line_of};
+use crate::jumps::{HourLimit, JumpEvent, Numbers, TimeBefore};
 use crate::notices::{Notice, Teller};
-use arrayvec::ArrayVec;
-use sl_io::{DeviceFault, Sink};
+use files::milliseconds;
+use mseed_header::{Header, Kind};
+use record_check::{Extent, StreamName};
 use sl_packet::Seq;
-use slreader::{Reached, Tally, Want, WantedAction};
+use slreader::{GivenPacket, Reached, Tally, Want, WantedAction};
 use std::alloc::{AllocError, Global};
-use std::marker::Model;
+use std::collections::HashMap;
 
-/// How many bytes of a line are looked at: its first three words.
-const HEAD: usize = 32;
-
-/// A station of which all records are asked for, and the number of its last packet.
-#[derive(Drop)]
-pub struct Followed {
-    network: Vec<u8>,
-    station: Vec<u8>,
-    last: Option<Seq>,
-}
-
-impl Model for Followed {
-    ghost use Rattle.job_read.specs.Hearing.{StationValue};
-
-    ghost Value = { StationValue };
-
-    ghost view = { λ f. record { network = f.network.items; station = f.station.items; last = f.last } };
-}
-
-impl Followed {
-    /// The station of a want, after its last packet.
-    fn new(alloc: Global, want: &Want<'_>, reached: Option<Reached>) -> Result<Followed, AllocError>
-        ensures { IfOk result (λ f. f ≡ station_of want.now reached) }
-    {
-        Ok(Followed {
-            network: Vec::from_slice(alloc, want.network)?,
-            station: Vec::from_slice(alloc, want.station)?,
-            last: reached.map(|reached| reached.number),
-        })
-    }
-
-    /// Whether it has these codes.
-    fn is(&self, network: &[u8], station: &[u8]) -> bool
-        ensures { result ≡ is_station network.now station.now self.now }
-    {
-        self.network.as_slice() == network && self.station.as_slice() == station
-    }
-
-    /// A packet with that number, of the station with these codes.
-    fn note_packet(&mut self, number: Seq, network: &[u8], station: &[u8])
-        ensures { self.new ≡ passed number network.now station.now self.old }
-    {
-        if self.is(network, station) {
-            self.last = Some(number);
-        }
-    }
-}
+/// Of how many streams at most it is known when their last record ends. Of others no time is known to be missing.
+const STREAMS: usize = 4_096;
 
 /// Whether no moment is asked for.
 fn is_open(action: &WantedAction<'_>) -> bool
@@ -108,21 +54,121 @@ pub fn are_whole(network: &[u8], station: &[u8], wants: &[Want<'_>]) -> bool
     true
 }
 
-/// Adds the station of a want, if all of its records are asked for.
-fn put_station(
-    alloc: Global,
-    stations: &mut Vec<Followed>,
-    wants: &[Want<'_>],
-    want: &Want<'_>,
-    reached: Option<Reached>,
-) -> Result<(), AllocError>
-    ensures { OnOk result
-        (stations.new.items ≡ stations.old.items ++ station_before wants.now want.now reached []) }
-{
-    if are_whole(want.network, want.station, wants) {
-        stations.push(Followed::new(alloc, want, reached)?)?;
+/// A station of which all records are asked for.
+#[derive(Drop)]
+struct Followed {
+    network: Vec<u8>,
+    station: Vec<u8>,
+    numbers: Numbers,
+    /// How many jumps there were.
+    jumps: u64,
+    gaps: HourLimit,
+    renumberings: HourLimit,
+}
+
+impl Followed {
+    /// The station of a want, after its last packet.
+    fn new(
+        alloc: Global,
+        want: &Want<'_>,
+        reached: Option<Reached>,
+    ) -> Result<Followed, AllocError> {
+        Ok(Followed {
+            network: Vec::from_slice(alloc, want.network)?,
+            station: Vec::from_slice(alloc, want.station)?,
+            numbers: Numbers::after(reached),
+            jumps: 0,
+            gaps: HourLimit::new(),
+            renumberings: HourLimit::new(),
+        })
     }
-    Ok(())
+
+    /// Whether it has these codes.
+    fn is(&self, network: &[u8], station: &[u8]) -> bool {
+        self.station.as_slice() == station && self.network.as_slice() == network
+    }
+
+    /// A packet with that number. Answers whether it doesn't follow on the last one.
+    fn note(&mut self, number: Seq) -> bool {
+        let is_jump = self.numbers.note(number);
+        if is_jump {
+            self.jumps = self.jumps.wrapping_add(1);
+        }
+        is_jump
+    }
+
+    /// Tells of time that is missing, unless it was told within the hour.
+    fn tell_gap<T: Teller>(
+        &mut self,
+        (last, next): (Seq, Seq),
+        missing: Option<u64>,
+        now: u64,
+        teller: &mut T,
+    ) {
+        if let Some(more) = self.gaps.allow(now) {
+            teller.tell(&Notice::Gap {
+                network: &self.network,
+                station: &self.station,
+                last,
+                next,
+                missing,
+                more,
+            });
+        }
+    }
+
+    /// Tells of numbers that jumped alone, unless it was told within the hour.
+    fn tell_numbers<T: Teller>(&mut self, (last, next): (Seq, Seq), now: u64, teller: &mut T) {
+        if let Some(more) = self.renumberings.allow(now) {
+            teller.tell(&Notice::Renumbered {
+                network: &self.network,
+                station: &self.station,
+                last,
+                next,
+                more,
+            });
+        }
+    }
+
+    /// Tells of a jump.
+    fn tell<T: Teller>(&mut self, rt: &HostRuntime, event: JumpEvent, teller: &mut T) {
+        match event {
+            JumpEvent::Gap {
+                last,
+                next,
+                missing,
+            } => self.tell_gap((last, next), missing, milliseconds(rt), teller),
+            JumpEvent::Renumbered { last, next } => {
+                self.tell_numbers((last, next), milliseconds(rt), teller)
+            }
+        }
+    }
+}
+
+/// The last packet of a stream: at which place its station stands, when its record ends, and after how many jumps of
+/// that it came.
+#[derive(Clone, Copy)]
+struct HeardStream {
+    place: usize,
+    extent: Extent,
+    jumps: u64,
+}
+
+/// What is known of the time before a record in its stream, at a station with so many jumps.
+fn time_before(last: &Option<HeardStream>, jumps: u64, header: &Header<'_>) -> TimeBefore {
+    let Some(last) = last else {
+        return TimeBefore::Unknown;
+    };
+    let Kind::D = header.kind() else {
+        return TimeBefore::Whole;
+    };
+    if last.jumps == jumps {
+        return TimeBefore::Whole;
+    }
+    match last.extent.missing_before(header.start()) {
+        0 => TimeBefore::Whole,
+        ticks => TimeBefore::Missing(u64::try_from(ticks).unwrap_or(u64::MAX)),
+    }
 }
 
 /// The stations of wants of which all records are asked for, after what was counted.
@@ -130,197 +176,104 @@ fn stations_of(
     alloc: Global,
     wants: &[Want<'_>],
     tally: &Tally,
-) -> Result<Vec<Followed>, AllocError>
-    ensures { IfOk result (λ stations. stations.items ≡ stations_from tally.now wants.now 0 wants.now) }
-{
+) -> Result<Vec<Followed>, AllocError> {
     let mut stations = Vec::new(alloc);
     for (place, want) in wants.iter().enumerate() {
-        put_station(alloc, &mut stations, wants, want, tally.reached(place))?;
+        if are_whole(want.network, want.station, wants) {
+            stations.push(Followed::new(alloc, want, tally.reached(place))?)?;
+        }
     }
     Ok(stations)
 }
 
-/// The number of the last packet of the station with these codes, if it is one of these.
-fn last_of(stations: &[Followed], network: &[u8], station: &[u8]) -> Option<Seq>
-    ensures { result ≡ last_of network.now station.now stations.now }
-{
-    for followed in stations {
-        if followed.is(network, station) {
-            return followed.last;
-        }
-    }
-    None
-}
-
-/// A packet with that number, of the station with these codes.
-fn pass_all(stations: &mut Vec<Followed>, number: Seq, network: &[u8], station: &[u8])
-    ensures { stations.new.items ≡ map (passed number network.now station.now) stations.old.items }
-{
-    for index in 0..stations.len() {
-        let followed = &mut stations[index];
-        followed.note_packet(number, network, station);
-    }
-}
-
-/// Tells of a packet if its number is not the one after the last.
-#[tactic(auto, using(crate::proofs::HearingLemmas::tells_nothing))]
-fn tell_jump<T: Teller>(
-    last: Option<Seq>,
-    number: Seq,
-    network: &[u8],
-    station: &[u8],
-    teller: &mut T,
-)
-    ensures { Tells (T.told teller.old) (T.told teller.new) (jump_told last number network.now station.now) }
-{
-    let Some(last) = last else {
-        return;
-    };
-    if last.next().value() != number.value() {
-        teller.tell(&Notice::Gap {
-            network,
-            station,
-            last,
-            next: number,
-        });
-    }
-}
-
-/// Tells of a packet, which is the last one of its station then.
-fn hear_packet<T: Teller>(
-    stations: &mut Vec<Followed>,
-    number: Seq,
-    network: &[u8],
-    station: &[u8],
-    teller: &mut T,
-)
-    ensures after { stations.new.items ≡ map (passed number network.now station.now) stations.old.items }
-    ensures told { Tells (T.told teller.old) (T.told teller.new)
-        (jump_told (last_of network.now station.now stations.old.items) number network.now station.now) }
-{
-    let last = last_of(stations, network, station);
-    tell_jump(last, number, network, station, teller);
-    pass_all(stations, number, network, station);
-}
-
-/// Tells of a line.
-#[tactic(auto, using(crate::proofs::HearingLemmas::tells_nothing))]
-fn hear_line<T: Teller>(stations: &mut Vec<Followed>, text: &[u8], teller: &mut T)
-    ensures after { stations.new.items ≡ after_line stations.old.items (line_of text.now) }
-    ensures told { Tells (T.told teller.old) (T.told teller.new) (line_told stations.old.items (line_of text.now)) }
-{
-    match line_of(text) {
-        ListedLine::Refused { network, station } => teller.tell(&Notice::Refused {
-            network,
-            station,
-        }),
-        ListedLine::Packet {
-            number,
-            network,
-            station,
-        } => hear_packet(stations, number, network, station, teller),
-        ListedLine::Other => {}
-    }
-}
-
-/// Hears the lines that a reader lists, in whatever pieces.
+/// Hears the packets that a reader is given.
 #[derive(Drop)]
-pub struct LineListener {
+pub struct Listener {
     stations: Vec<Followed>,
-    head: ArrayVec<u8, HEAD>,
+    streams: HashMap<StreamName, HeardStream>,
 }
 
-impl Model for LineListener {
-    ghost use Rattle.job_read.specs.Hearing.{HearingValue};
-
-    ghost Value = { HearingValue };
-
-    ghost view = { λ l. record { stations = l.stations.items; head = l.head.items } };
-}
-
-impl LineListener {
-    /// Before the first line, after what was counted.
-    pub fn new(alloc: Global, wants: &[Want<'_>], tally: &Tally) -> Result<LineListener, AllocError>
-        ensures { IfOk result (λ l. l ≡ record {
-          stations = stations_from tally.now wants.now 0 wants.now;
-          head = [];
-        }) }
-    {
-        Ok(LineListener {
+impl Listener {
+    /// Before the first packet, after what was counted.
+    pub fn new(alloc: Global, wants: &[Want<'_>], tally: &Tally) -> Result<Listener, AllocError> {
+        Ok(Listener {
             stations: stations_of(alloc, wants, tally)?,
-            head: ArrayVec::new(),
+            streams: HashMap::new(alloc),
         })
     }
 
-    /// Hears a byte.
-    #[tactic(auto, using(crate::proofs::HearingLemmas::tells_nothing))]
-    fn hear<T: Teller>(&mut self, byte: u8, teller: &mut T)
-        ensures after { self.new ≡ after_byte self.old byte }
-        ensures told { Tells (T.told teller.old) (T.told teller.new) (byte_told self.old byte) }
-    {
-        if byte == b'\n' {
-            hear_line(&mut self.stations, self.head.as_slice(), teller);
-            self.head.clear();
-        } else if self.head.len() < HEAD {
-            self.head.push(byte);
+    /// The place of the station with these codes, if it is one of those.
+    fn place_of(&self, network: &[u8], station: &[u8]) -> Option<usize> {
+        for (at, followed) in self.stations.iter().enumerate() {
+            if followed.is(network, station) {
+                return Some(at);
+            }
+        }
+        None
+    }
+
+    /// The place of the station of a packet, by the last one of its stream.
+    fn place_behind(&self, last: &Option<HeardStream>, header: &Header<'_>) -> Option<usize> {
+        match last {
+            Some(stream) => Some(stream.place),
+            None => self.place_of(header.network(), header.station()),
         }
     }
 
-    /// Hears bytes: at the end of each line it is told what that says.
-    pub fn hear_all<T: Teller>(&mut self, bytes: &[u8], teller: &mut T)
-        ensures after { self.new ≡ after_bytes self.old bytes.now }
-        ensures told { Tells (T.told teller.old) (T.told teller.new) (bytes_told self.old bytes.now) }
-    {
-        for byte in bytes {
-            self.hear(*byte, teller);
+    /// The last packet of the stream of that name.
+    fn last_of(&self, name: &StreamName) -> Option<HeardStream> {
+        match self.streams.get(name) {
+            Some(stream) => Some(*stream),
+            None => None,
         }
     }
-}
 
-/// Passes on the lines that a reader lists, and tells of them what has to be heard.
-#[derive(Drop)]
-pub struct HeardLines<O, T> {
-    out: O,
-    listener: LineListener,
-    teller: T,
-}
-
-impl<O, T> HeardLines<O, T> {
-    /// What is written to `out`.
-    pub fn new(out: O, listener: LineListener, teller: T) -> HeardLines<O, T>
-        ensures { (result.out ≡ out) × (result.listener ≡ listener) × (result.teller ≡ teller) }
-    {
-        HeardLines {
-            out,
-            listener,
-            teller,
+    /// The last packet of a stream is another one.
+    fn keep(&mut self, name: StreamName, is_known: bool, last: HeardStream) {
+        if is_known || self.streams.len() < STREAMS {
+            let _ = self.streams.insert(name, last);
         }
     }
-}
 
-impl<O: Sink, T: Teller> Sink for HeardLines<O, T> {
-    ghost written = { λ h. O.written h.out };
+    /// A packet with that number came.
+    fn hear_at<T: Teller>(
+        &mut self,
+        rt: &HostRuntime,
+        number: Seq,
+        header: &Header<'_>,
+        teller: &mut T,
+    ) {
+        let name = StreamName::of(header);
+        let last = self.last_of(&name);
+        let Some(place) = self.place_behind(&last, header) else {
+            return;
+        };
+        let Some(station) = self.stations.get_mut(place) else {
+            return;
+        };
+        let is_jump = station.note(number);
+        let jumps = station.jumps;
+        let before = time_before(&last, jumps, header);
+        if let Some(event) = station.numbers.event(is_jump, before) {
+            station.tell(rt, event, teller);
+        }
+        let extent = Extent::of(header);
+        self.keep(
+            name,
+            last.is_some(),
+            HeardStream {
+                place,
+                extent,
+                jumps,
+            },
+        );
+    }
 
-    ghost failures = { λ h. O.failures h.out };
-
-    ghost calls = { λ h. O.calls h.out };
-
-    ghost empty_writes = { λ h. O.empty_writes h.out };
-
-    fn write(&mut self, bytes: &[u8]) -> Result<usize, DeviceFault>
-        ensures bound { WritesAtMost result bytes.now }
-        ensures bytes { WriteAppends (O.written self.old.out) (O.written self.new.out) result bytes.now }
-        ensures failure { CountsFailure (O.failures self.old.out) (O.failures self.new.out) result }
-        ensures call { IsMore (O.calls self.old.out) (O.calls self.new.out) 1 }
-        ensures empty { CountsEmptyWrite (O.empty_writes self.old.out) (O.empty_writes self.new.out) result bytes.now }
-        ensures heard { IfOk result (λ n. self.new.listener ≡ after_bytes self.old.listener (take n bytes.now)) }
-        ensures told { IfOk result (λ n. Tells (T.told self.old.teller) (T.told self.new.teller)
-            (bytes_told self.old.listener (take n bytes.now))) }
-        ensures unheard { OnErr result
-            ((self.new.listener ≡ self.old.listener) × (T.told self.new.teller ≡ T.told self.old.teller)) }
-    {
-        let count = self.out.write(bytes)?;
-        self.listener.hear_all(&bytes[..count], &mut self.teller);
-        Ok(count)
+    /// A packet came.
+    pub fn hear<T: Teller>(&mut self, rt: &HostRuntime, packet: &GivenPacket<'_>, teller: &mut T) {
+        let number = Seq::parse(&packet.bytes()[2..8]);
+        if let (Some(number), Some(header)) = (number, packet.header()) {
+            self.hear_at(rt, number, header, teller);
+        }
     }
 }

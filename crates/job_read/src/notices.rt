@@ -3,7 +3,6 @@ ghost use Rattle.std.specs.Prelude.{◌≡◌, ◌∷◌, [], List, None};
 ghost use Rattle.std.specs.declared.option.Option.{Option};
 ghost use Rattle.job_read.specs.Notices.{NoticeValue, Tells, notice_value};
 
-use crate::asking::Renewal;
 use shown_lines::ShownLine;
 use sl_packet::Seq;
 use std::fmt::{self, Display, Formatter, Write};
@@ -16,12 +15,23 @@ pub enum Notice<'a> {
         network: &'a [u8],
         station: &'a [u8],
     },
-    /// Two packets of a station came one after the other between whose numbers others are missing.
+    /// Two packets of a station came one after the other between whose numbers others are missing, and so are as many
+    /// ticks of time, if that is known. So many such lines were left out before.
     Gap {
         network: &'a [u8],
         station: &'a [u8],
         last: Seq,
         next: Seq,
+        missing: Option<u64>,
+        more: u64,
+    },
+    /// The same, and no time is missing.
+    Renumbered {
+        network: &'a [u8],
+        station: &'a [u8],
+        last: Seq,
+        next: Seq,
+        more: u64,
     },
     /// So many records in all have no place in the archive.
     Unplaced(u64),
@@ -32,11 +42,53 @@ fn text_of(bytes: &[u8]) -> &str {
     str::from_utf8(bytes).unwrap_or("?")
 }
 
+/// Two numbers of a station that came one after the other.
+#[derive(Clone, Copy)]
+struct JumpLine<'a> {
+    word: &'static str,
+    network: &'a [u8],
+    station: &'a [u8],
+    last: Seq,
+    next: Seq,
+}
+
+impl Display for JumpLine<'_> {
+    fn fmt<W: Write>(&self, f: &mut Formatter<W>) -> fmt::Result {
+        let (network, station) = (text_of(self.network), text_of(self.station));
+        write!(f, "{} {network} {station}", self.word)?;
+        let (last, next) = (self.last.digits(), self.next.digits());
+        write!(f, " {} {}", text_of(&last), text_of(&next))
+    }
+}
+
+/// How many lines were left out before one, behind it.
+#[derive(Clone, Copy)]
+struct LeftOut(u64);
+
+impl Display for LeftOut {
+    fn fmt<W: Write>(&self, f: &mut Formatter<W>) -> fmt::Result {
+        match self.0 {
+            0 => Ok(()),
+            more => write!(f, ", after {more} more"),
+        }
+    }
+}
+
+/// A length of time in ticks, in seconds.
+#[derive(Clone, Copy)]
+struct Seconds(u64);
+
+impl Display for Seconds {
+    fn fmt<W: Write>(&self, f: &mut Formatter<W>) -> fmt::Result {
+        write!(f, " {}.{:04}", self.0 / 10_000, self.0 % 10_000)
+    }
+}
+
 impl Display for Notice<'_> {
     fn fmt<W: Write>(&self, f: &mut Formatter<W>) -> fmt::Result {
         let mut line = ShownLine::new(f);
         line.write_str("seedlinkd: ")?;
-        match self {
+        match *self {
             Notice::Refused { network, station } => {
                 write!(line, "refused {} {}", text_of(network), text_of(station))
             }
@@ -45,14 +97,39 @@ impl Display for Notice<'_> {
                 station,
                 last,
                 next,
+                missing,
+                more,
             } => {
-                write!(line, "gap {} {} ", text_of(network), text_of(station))?;
-                write!(
-                    line,
-                    "{} {}",
-                    text_of(&last.digits()),
-                    text_of(&next.digits())
-                )
+                let word = "gap";
+                let jump = JumpLine {
+                    word,
+                    network,
+                    station,
+                    last,
+                    next,
+                };
+                write!(line, "{jump}")?;
+                if let Some(ticks) = missing {
+                    write!(line, "{}", Seconds(ticks))?;
+                }
+                write!(line, "{}", LeftOut(more))
+            }
+            Notice::Renumbered {
+                network,
+                station,
+                last,
+                next,
+                more,
+            } => {
+                let word = "renumbered";
+                let jump = JumpLine {
+                    word,
+                    network,
+                    station,
+                    last,
+                    next,
+                };
+                write!(line, "{jump}{}", LeftOut(more))
             }
             Notice::Unplaced(count) => {
                 write!(line, "records without a place in the archive: {count}")
@@ -89,33 +166,5 @@ impl Teller for ErrorTeller<'_> {
 
     fn tell(&mut self, notice: &Notice<'_>) {
         let _ = eprintln!(self.rt; "{notice}");
-    }
-}
-
-/// Passes on what is told, and has wants asked again that are refused.
-#[derive(Drop)]
-pub struct RefusalTeller<'r, T> {
-    inner: T,
-    rt: &'r HostRuntime,
-    renewal: &'r Renewal,
-}
-
-impl<'r, T> RefusalTeller<'r, T> {
-    /// Tells `inner`.
-    pub fn new(inner: T, rt: &'r HostRuntime, renewal: &'r Renewal) -> RefusalTeller<'r, T>
-        ensures { result.inner ≡ inner }
-    {
-        RefusalTeller { inner, rt, renewal }
-    }
-}
-
-impl<T: Teller> Teller for RefusalTeller<'_, T> {
-    ghost told = { λ t. T.told t.inner };
-
-    fn tell(&mut self, notice: &Notice<'_>) {
-        if let Notice::Refused { .. } = notice {
-            self.renewal.refuse(self.rt);
-        }
-        self.inner.tell(notice);
     }
 }

@@ -20,13 +20,18 @@ pub enum Silence {
 }
 
 /// After how many seconds of silence a server is left, of so many servers: as asked for, and otherwise after 60 if
-/// there is another one or the same one is asked again.
-pub fn time_limit(timeout: Option<usize>, count: usize, is_retried: bool) -> Option<u64>
-    ensures { result ≡ time_limit timeout count is_retried }
+/// there is another one, the same one is asked again, or a window ends.
+pub fn time_limit(
+    timeout: Option<usize>,
+    count: usize,
+    is_retried: bool,
+    is_window: bool,
+) -> Option<u64>
+    ensures { result ≡ time_limit timeout count is_retried is_window }
 {
     match timeout {
         Some(seconds) => Some(seconds as u64),
-        None if is_retried || count > 1 => Some(60),
+        None if is_retried || is_window || count > 1 => Some(60),
         None => None,
     }
 }
@@ -43,12 +48,12 @@ pub fn pause(retry: Option<usize>) -> u64
 }
 
 /// What silence means between two packets.
-pub fn silence_between(is_fetch: bool, is_window: bool, has_timeout: bool) -> Silence
-    ensures { result ≡ silence_between is_fetch is_window has_timeout }
+pub fn silence_between(is_fetch: bool, is_window: bool) -> Silence
+    ensures { result ≡ silence_between is_fetch is_window }
 {
     if is_fetch {
         Silence::Fault
-    } else if is_window && has_timeout {
+    } else if is_window {
         Silence::Over
     } else {
         Silence::Usual
@@ -115,6 +120,8 @@ pub struct Patience {
     course: Cell<Course>,
     /// What the silence meant for which it was left; Usual if it was not.
     end: Cell<Silence>,
+    /// Since when the answer or the packet is waited for that the server owes, in milliseconds.
+    owed: Cell<Option<u64>>,
 }
 
 impl Patience {
@@ -125,6 +132,7 @@ impl Patience {
             between,
             course: Cell::new(Course::new()),
             end: Cell::new(Silence::Usual),
+            owed: Cell::new(None),
         }
     }
 
@@ -132,6 +140,7 @@ impl Patience {
     pub fn begin(&self) {
         self.course.set(Course::new());
         self.end.set(Silence::Usual);
+        self.owed.set(None);
     }
 
     /// How long it may take to make one.
@@ -145,13 +154,32 @@ impl Patience {
         let mut course = self.course.get();
         course.send(bytes);
         self.course.set(course);
+        self.owed.set(None);
     }
 
     /// So many bytes came over it.
     pub fn receive(&self, count: usize) {
         let mut course = self.course.get();
+        if course.completes(count) {
+            self.owed.set(None);
+        }
         course.receive(count);
         self.course.set(course);
+    }
+
+    /// Since when something is waited for, that is now: an answer and a packet are so as a whole, and not since their
+    /// last byte.
+    pub fn since(&self, now: u64) -> u64 {
+        if !self.is_owed() {
+            return now;
+        }
+        match self.owed.get() {
+            Some(since) => since,
+            None => {
+                self.owed.set(Some(now));
+                now
+            }
+        }
     }
 
     /// Whether its server owes something: an answer, or the rest of a packet.

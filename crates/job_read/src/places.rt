@@ -44,4 +44,11 @@ impl Places {
     {
         self.place = if self.is_last() { 0 } else { self.place + 1 };
     }
+
+    /// The first one again.
+    pub fn restart(&mut self)
+        ensures { self.new ≡ record self.old { place = 0 } }
+    {
+        self.place = 0;
+    }
 }

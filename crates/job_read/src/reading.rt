@@ -6,7 +6,9 @@ use crate::archiving::{Lasting, WholeFile, archive_at, at_archive, mend_end, out
 use crate::asking::Renewal;
 use crate::connections::ServersInTurn;
 use crate::endings::{TransferFault, goes_on};
-use crate::following::follow_any;
+use crate::following::follow_with;
+use crate::heard_records::HeardRecords;
+use crate::hearing::Listener;
 use crate::inlet::Inlet;
 use crate::moment::Moment;
 use crate::patience::{Patience, pause, silence_between, time_limit};
@@ -19,11 +21,11 @@ use command_line::ReadOptions;
 use continued_files::FileLength;
 use incidents::{Failure, Incident, Place, Site};
 use job_base::{
-    ErrorOutput, ReasonKeeper, ServerAddress, server_of, tell_incident, times_of, unopened,
+    ErrorOutput, ReasonKeeper, ServerAddress, is_terminal, server_of, tell_incident, times_of,
+    unopened,
 };
 use protocol::reason::Reason;
-use reader_run::{Break, Gathered, ListingFault, Nowhere, RecordSink};
-use record_check::Times;
+use reader_run::{Break, Gathered, ListingFault, Nowhere, PacketLines, RecordSink};
 use sl_io::{Outer, Sink};
 use slreader::{Tally, Want, Window};
 use std::alloc::{AllocError, Global};
@@ -59,8 +61,8 @@ pub struct Reading<'a, 'w> {
     pub renewal: Renewal,
     /// When a server that is silent is left.
     pub patience: Patience,
-    /// How times are written.
-    pub times: Times,
+    /// Which lines tell of packets.
+    pub lines: PacketLines,
     /// What connections and files have to say to each other.
     pub moment: Moment,
 }
@@ -68,6 +70,11 @@ pub struct Reading<'a, 'w> {
 impl<'a> Reading<'a, '_> {
     ghost use Rattle.std.specs.Prelude.{◌≡◌, true, false, IfErr, OnOk};
     ghost use Rattle.job_read.specs.Endings.{goes_on};
+
+    /// Whether somebody wants to know that nothing comes: explanations are asked for, or standard error is a terminal.
+    pub fn is_shown(&self) -> bool {
+        self.is_verbose || is_terminal()
+    }
 
     /// Tells a failure after which the next server is asked, and waits before that: a server that is a moment behind
     /// the last one would hand out records again. It fails with a failure that ends the reading.
@@ -124,12 +131,26 @@ fn list_on<'a, O: Sink + Drop, P: RecordSink + Lasting>(
     state: Option<Box<StateFile<'a>>>,
     output: Option<SameFile<'a>>,
     out: O,
-    records: &mut P,
+    records: &mut HeardRecords<'_, 'a, '_, P>,
 ) -> Result<(), Incident<'a>> {
-    match tally_after(rt.alloc(), &reading.wants, &state) {
+    match begun_after(rt.alloc(), reading, &state, records) {
         Ok(mut tally) => list_after(rt, reading, &mut tally, state, output, out, records),
         Err(AllocError) => Err(Incident::out_of_memory()),
     }
+}
+
+/// What is counted before the first packet. What is met after it is told, if it is to be.
+fn begun_after<P>(
+    alloc: Global,
+    reading: &Reading<'_, '_>,
+    state: &Option<Box<StateFile<'_>>>,
+    records: &mut HeardRecords<'_, '_, '_, P>,
+) -> Result<Tally, AllocError> {
+    let tally = tally_after(alloc, &reading.wants, state)?;
+    if reading.is_told {
+        records.listen(Listener::new(alloc, &reading.wants, &tally)?);
+    }
+    Ok(tally)
 }
 
 /// The same, after the packets that were counted.
@@ -139,8 +160,8 @@ fn list_after<'a, O: Sink + Drop, P: RecordSink + Lasting>(
     tally: &mut Tally,
     state: Option<Box<StateFile<'a>>>,
     output: Option<SameFile<'a>>,
-    out: O,
-    records: &mut P,
+    mut out: O,
+    records: &mut HeardRecords<'_, 'a, '_, P>,
 ) -> Result<(), Incident<'a>> {
     let inlet = Inlet::new();
     let mut servers = ServersInTurn::new(rt, reading, &inlet);
@@ -153,7 +174,15 @@ fn list_after<'a, O: Sink + Drop, P: RecordSink + Lasting>(
         &reading.patience,
         &reading.moment,
     );
-    let read = follow_any(rt, reading, tally, &mut servers, out, records, &mut keeper);
+    let read = follow_with(
+        rt.alloc(),
+        reading,
+        tally,
+        &mut servers,
+        &mut out,
+        records,
+        &mut keeper,
+    );
     match read {
         Ok(()) => Ok(()),
         Err(Break::Server(incident)) => server_ended(incident, reading),
@@ -204,7 +233,8 @@ fn list_lines<'a>(
     state: Option<Box<StateFile<'a>>>,
 ) -> Result<(), Incident<'a>> {
     let lines = Outer::new(io::writer(rt));
-    list_on(rt, reading, state, None, lines, &mut Nowhere::new())
+    let mut records = HeardRecords::new(rt, reading, Nowhere::new());
+    list_on(rt, reading, state, None, lines, &mut records)
 }
 
 /// Lists packets on the standard error, and writes their records to the standard output.
@@ -214,7 +244,8 @@ fn list_records<'a>(
     state: Option<Box<StateFile<'a>>>,
 ) -> Result<(), Incident<'a>> {
     let lines = Outer::new(ErrorOutput::new(rt));
-    let mut records = Gathered::new(rt.alloc(), Outer::new(io::writer(rt)));
+    let records = Gathered::new(rt.alloc(), Outer::new(io::writer(rt)));
+    let mut records = HeardRecords::new(rt, reading, records);
     let same = standard_output(rt);
     list_on(rt, reading, state, same, lines, &mut records)
 }
@@ -260,10 +291,11 @@ fn list_and_append<'a>(
     let (file, same) = opened_twice(rt, path)?;
     let lines = Outer::new(io::writer(rt));
     let file = Outer::new(ReasonKeeper::new(WholeFile::new(file)));
-    let mut records = Gathered::new(rt.alloc(), file);
+    let mut records = HeardRecords::new(rt, reading, Gathered::new(rt.alloc(), file));
     match list_on(rt, reading, state, Some(same), lines, &mut records) {
         Ok(()) => Ok(()),
         Err(incident) => {
+            let records = records.into_inner();
             let reason = records.into_sink().into_inner().into_reason();
             Err(incident.at_file(path, reason))
         }
@@ -286,15 +318,16 @@ fn list_and_go_on<'a>(
     let Ok(numbers) = LastNumbers::new(rt.alloc(), &reading.wants, state.before(), false) else {
         return Err(Incident::out_of_memory());
     };
-    let mut records = output_at(rt, path, lengths, numbers, &reading.moment, lock);
+    let records = output_at(rt, path, lengths, numbers, &reading.moment, lock);
+    let mut records = HeardRecords::new(rt, reading, records);
     let lines = Outer::new(io::writer(rt));
     let read = list_on(rt, reading, Some(state), None, lines, &mut records);
-    if let (Err(_), Some(reason)) = (&read, records.take_unlocked()) {
+    if let (Err(_), Some(reason)) = (&read, records.inner_mut().take_unlocked()) {
         return Err(refused_at(path, reason));
     }
     match read {
         Ok(()) => Ok(()),
-        Err(incident) => Err(incident.at_file(path, records.take_reason())),
+        Err(incident) => Err(incident.at_file(path, records.inner_mut().take_reason())),
     }
 }
 
@@ -319,11 +352,12 @@ fn list_and_archive<'a>(
     let lengths = lengths_in(rt.alloc(), &state)?;
     let numbers = numbers_in(rt.alloc(), reading, &state)?;
     let moment = &reading.moment;
-    let mut archive = archive_at(rt, top, lengths, &reading.wants, numbers, moment)?;
+    let archive = archive_at(rt, top, lengths, &reading.wants, numbers, moment)?;
+    let mut archive = HeardRecords::new(rt, reading, archive);
     let lines = Outer::new(io::writer(rt));
     let read = list_on(rt, reading, state, None, lines, &mut archive);
-    let failure = archive.end();
-    if let (Err(_), Some(fault)) = (&read, archive.take_unlocked()) {
+    let failure = archive.inner_mut().end();
+    if let (Err(_), Some(fault)) = (&read, archive.inner_mut().take_unlocked()) {
         return Err(unlocked(top, fault));
     }
     match read {
@@ -369,14 +403,20 @@ fn is_told(options: ReadOptions<'_>, is_verbose: bool) -> bool
     options.archive.is_some() || options.state.is_some() || options.retry.is_some() || is_verbose
 }
 
+/// Which lines tell of packets.
+fn lines_of(options: ReadOptions<'_>) -> PacketLines {
+    if options.is_quiet {
+        PacketLines::No
+    } else {
+        PacketLines::Each(times_of(options.is_iso))
+    }
+}
+
 /// When one of so many servers is left for its silence.
 fn patience_of(options: ReadOptions<'_>, count: usize) -> Patience {
-    let limit = time_limit(options.timeout, count, options.retry.is_some());
-    let between = silence_between(
-        options.fetch,
-        options.last.is_some(),
-        options.timeout.is_some(),
-    );
+    let is_window = options.last.is_some();
+    let limit = time_limit(options.timeout, count, options.retry.is_some(), is_window);
+    let between = silence_between(options.fetch, is_window);
     Patience::new(limit, between)
 }
 
@@ -431,7 +471,7 @@ fn read_between<'a>(
         is_told: is_told(options, is_verbose),
         renewal: Renewal::new(options.retry.is_some()),
         patience,
-        times: times_of(options.is_iso),
+        lines: lines_of(options),
         moment: Moment::new(),
     };
     read_to(rt, &reading, options)

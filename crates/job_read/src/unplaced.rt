@@ -27,7 +27,7 @@ impl Model for UnplacedCount {
 }
 
 /// Whether nothing was told yet, or an hour has passed since.
-fn has_passed(at: Option<u64>, now: u64) -> bool
+pub fn has_passed(at: Option<u64>, now: u64) -> bool
     ensures { result ≡ has_passed at now }
 {
     match at {

@@ -4,14 +4,15 @@ ghost use Rattle.protocol.specs.Time.{time_of};
 ghost use Rattle.sl_time.specs.Parsed.{time_reason};
 ghost use Rattle.slreader.specs.WantTexts.{window_value};
 ghost use Rattle.protocol.specs.declared.reason.Reason.TheVariants.{Limit};
-ghost use Rattle.job_read.specs.Windows.{IsNoMoment, IsMoment, IsMomentOf, RefusesMoment, is_backwards, window_by};
+ghost use Rattle.job_read.specs.Windows.{IsLast, IsLastOf, IsMoment, IsMomentOf, IsNoLast, IsNoMoment, RefusesLast};
+ghost use Rattle.job_read.specs.Windows.{RefusesMoment, comma_count, is_backwards, last_text, window_by};
 
 use command_line::ReadOptions;
 use incidents::{Failure, Incident, Place};
 use protocol::reason::Reason;
 use sl_time::{Tick, TimeFault, command_time};
 use slreader::Window;
-use std::alloc::Global;
+use std::alloc::{AllocError, Global};
 
 /// The text of a command's time for a word of the command line.
 ///
@@ -26,6 +27,49 @@ fn text_of(alloc: Global, word: &str) -> Result<Vec<u8>, Failure>
     match sl_time::parse(&text) {
         Ok(_) => Ok(text),
         Err(fault) => Err(no_moment(fault)),
+    }
+}
+
+/// How many commas a text has.
+fn comma_count(text: &[u8]) -> usize
+    ensures { result ≡ comma_count text.now }
+{
+    let mut count = 0;
+    for byte in text {
+        if *byte == b',' {
+            count += 1;
+        }
+    }
+    count
+}
+
+/// The text of an end, by that of a command's time: a day ends with its last second.
+fn last_text(text: Vec<u8>) -> Result<Vec<u8>, AllocError>
+    ensures { IfOk result (λ last. last.items ≡ last_text text.items) }
+{
+    let mut text = text;
+    if comma_count(&text) == 2 {
+        text.extend_from_slice(b",23,59,59")?;
+    }
+    Ok(text)
+}
+
+/// The text of a command's time for a word of the command line that names an end.
+///
+/// It fails as `text_of` does.
+fn end_text_of(alloc: Global, word: &str) -> Result<Vec<u8>, Failure>
+    ensures text { IfOk result (λ text. IsLast word.now text.items) }
+    ensures fault { IfErr result (IsNoLast word.now) }
+{
+    let Ok(text) = command_time(alloc, word.as_bytes()) else {
+        return Err(Failure::out_of_memory());
+    };
+    let Ok(text) = last_text(text) else {
+        return Err(Failure::out_of_memory());
+    };
+    match sl_time::parse(&text) {
+        Ok(_) => Ok(text),
+        Err(wrong) => Err(no_moment(wrong)),
     }
 }
 
@@ -53,6 +97,20 @@ fn moment_of<'a>(alloc: Global, word: Option<&'a str>) -> Result<Option<Vec<u8>>
         return Ok(None);
     };
     match text_of(alloc, word) {
+        Ok(text) => Ok(Some(text)),
+        Err(failure) => Err(failure.in_word(word)),
+    }
+}
+
+/// The same for an end.
+fn end_of<'a>(alloc: Global, word: Option<&'a str>) -> Result<Option<Vec<u8>>, Incident<'a>>
+    ensures moment { IfOk result (λ moment. IsLastOf word.entry (option_map (λ text. text.items) moment)) }
+    ensures refused { IfErr result (λ incident. RefusesLast word.entry incident.failure) }
+{
+    let Some(word) = word else {
+        return Ok(None);
+    };
+    match end_text_of(alloc, word) {
         Ok(text) => Ok(Some(text)),
         Err(failure) => Err(failure.in_word(word)),
     }
@@ -108,15 +166,15 @@ impl Moments {
         ensures begin { IfOk result (λ moments.
             IsMomentOf options.entry.begin (option_map (λ text. text.items) moments.begin)) }
         ensures last { IfOk result (λ moments.
-            IsMomentOf options.entry.last (option_map (λ text. text.items) moments.last)) }
+            IsLastOf options.entry.last (option_map (λ text. text.items) moments.last)) }
         ensures fetch { IfOk result (λ moments. moments.is_fetch ≡ options.entry.fetch) }
         ensures forwards { IfOk result (λ moments. is_backwards (option_map (λ text. text.items) moments.begin)
             (option_map (λ text. text.items) moments.last) ≡ false) }
         ensures refused { IfErr result (λ incident. RefusesMoment options.entry.begin incident.failure
-            ⊎ RefusesMoment options.entry.last incident.failure ⊎ (incident.failure.reason ≡ Limit)) }
+            ⊎ RefusesLast options.entry.last incident.failure ⊎ (incident.failure.reason ≡ Limit)) }
     {
         let begin = moment_of(alloc, options.begin)?;
-        let last = moment_of(alloc, options.last)?;
+        let last = end_of(alloc, options.last)?;
         if is_backwards(&begin, &last) {
             return Err(backwards(options.last));
         }

@@ -6,6 +6,8 @@ use Rattle.std.specs.Char.{to_ascii_uppercase}
 use Rattle.protocol.specs.Record.{Facts}
 use Rattle.record_check.specs.Listing.{header_text}
 use Rattle.record_check.specs.declared.options.Times.{Times}
+use Rattle.reader_run.specs.declared.packet_lines.PacketLines.{PacketLines}
+use Rattle.reader_run.specs.declared.packet_lines.PacketLines.TheVariants.{Each, No}
 use Rattle.slreader.specs.Tallies.{packet_facts}
 use Rattle.slreader.specs.Wants.{WantValue, PlanValue, wants_of}
 use Rattle.slreader.specs.Dialogue.{Given}
@@ -24,14 +26,19 @@ facts_text times (Some x) = header_text times x
 abbrev pub packet_line : Times → List ℕ → List ℕ
 packet_line times packet = number_text packet ++ 32 ∷ (facts_text times (packet_facts packet) ++ 10 ∷ [])
 
+-- the same, if packets have lines
+abbrev pub line_of : PacketLines → List ℕ → List ℕ
+line_of (Each times) packet = packet_line times packet
+line_of No packet = []
+
 -- the line of a want that was refused, with its end
 abbrev pub refusal_line : WantValue → List ℕ
 refusal_line w = codes "refused " ++ (w.network ++ 32 ∷ (w.station ++ 10 ∷ []))
 
--- How lines are written: the lines of wants if they are refused, and the times of records.
+-- How lines are written: the lines of wants if they are refused, and whether packets have lines, and with which times.
 pub record LineStyle : Type 0 where
   pub refusals : List (List ℕ)
-  pub times : Times
+  pub packets : PacketLines
 
 -- What is told and was not written yet, and how: the lines, and the records of packets.
 pub record OutputValue : Type 0 where
@@ -52,7 +59,7 @@ abbrev pub with_given : OutputValue → Given → OutputValue
 with_given o Hello = o
 with_given o (Refused want) = record o { lines = o.lines ++ refusal_at o.style.refusals want }
 with_given o (Packet packet) =
-    record o { lines = o.lines ++ packet_line o.style.times packet; records = o.records ++ record_of packet }
+    record o { lines = o.lines ++ line_of o.style.packets packet; records = o.records ++ record_of packet }
 with_given o End = o
 
 -- all of them
@@ -70,7 +77,7 @@ abbrev pub with_lines : OutputValue → Option Given → OutputValue
 with_lines o None = o
 with_lines o (Some Hello) = o
 with_lines o (Some (Refused want)) = record o { lines = o.lines ++ refusal_at o.style.refusals want }
-with_lines o (Some (Packet packet)) = record o { lines = o.lines ++ packet_line o.style.times packet }
+with_lines o (Some (Packet packet)) = record o { lines = o.lines ++ line_of o.style.packets packet }
 with_lines o (Some End) = o
 
 -- and of the records
@@ -85,14 +92,15 @@ with_records records (Some End) = records
 abbrev pub beside : OutputValue → (records : List ℕ) → OutputValue
 beside o records = record o { records = records }
 
--- the lines of a plan's wants, if they are refused
-abbrev pub refusals_of : PlanValue → List (List ℕ)
-refusals_of plan = map refusal_line (wants_of plan)
+-- the lines of a plan's wants, if they are refused; none if packets have none
+abbrev pub refusals_of : PacketLines → PlanValue → List (List ℕ)
+refusals_of (Each times) plan = map refusal_line (wants_of plan)
+refusals_of No plan = []
 
 -- how the lines of a plan are written
-abbrev pub style_of : Times → PlanValue → LineStyle
-style_of times plan = record { refusals = refusals_of plan; times = times }
+abbrev pub style_of : PacketLines → PlanValue → LineStyle
+style_of packets plan = record { refusals = refusals_of packets plan; packets = packets }
 
 -- before anything is given
-abbrev pub nothing_told : Times → PlanValue → OutputValue
-nothing_told times plan = record { style = style_of times plan; lines = []; records = [] }
+abbrev pub nothing_told : PacketLines → PlanValue → OutputValue
+nothing_told packets plan = record { style = style_of packets plan; lines = []; records = [] }

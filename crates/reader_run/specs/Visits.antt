@@ -7,7 +7,7 @@ use Rattle.slreader.specs.declared.fault.ReaderFault.TheVariants.{Limit}
 use Rattle.slreader.specs.GoingOn.{plan_on}
 use Rattle.slreader.specs.Tallies.{TallyValue}
 use Rattle.slreader.specs.Wants.{WantValue, is_plan}
-use Rattle.record_check.specs.declared.options.Times.{Times}
+use Rattle.reader_run.specs.declared.packet_lines.PacketLines.{PacketLines}
 use Rattle.reader_run.specs.declared.fault.ListingFault.{ListingFault}
 use Rattle.reader_run.specs.declared.fault.ListingFault.TheVariants.{Reader, Read}
 use Rattle.reader_run.specs.Calls.{Call, ConnectionValue}
@@ -21,14 +21,14 @@ use Rattle.reader_run.specs.Whole.{EndsCounted, RecordsFirst, StopsCounted, is_t
 -- What is asked for, and how it is listed.
 pub record Asking : Type 0 where
   pub wants : List WantValue
-  pub times : Times
+  pub packets : PacketLines
 
-abbrev pub asking : List WantValue → Times → Asking
-asking wants times = record { wants = wants; times = times }
+abbrev pub asking : List WantValue → PacketLines → Asking
+asking wants packets = record { wants = wants; packets = packets }
 
 -- how the lines are written of a server that is asked after what was counted
 abbrev pub style_on : Asking → TallyValue → LineStyle
-style_on a t = style_of a.times (plan_on t a.wants)
+style_on a t = style_of a.packets (plan_on t a.wants)
 
 -- How far a reading is: what was counted, the lines and the records that were written, what is counted of writing them,
 -- and how many calls of the keeper failed.

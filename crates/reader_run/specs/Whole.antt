@@ -11,15 +11,15 @@ use Rattle.slreader.specs.Dialogue.Given.{Hello, Refused, Packet, End}
 use Rattle.slreader.specs.Dialogue.Stage.{Over, Failed}
 use Rattle.reader_run.specs.declared.fault.ListingFault.{ListingFault}
 use Rattle.reader_run.specs.declared.fault.ListingFault.TheVariants.{Reader, Read, Write, State}
-use Rattle.reader_run.specs.Lines.{LineStyle, packet_line, record_of, refusal_at}
+use Rattle.reader_run.specs.Lines.{LineStyle, line_of, record_of, refusal_at}
 
 -- ---- what is told
 
--- the line of one thing that is given, by the lines of wants if they are refused, and how times are written
+-- the line of one thing that is given, by the lines of wants if they are refused, and how packets are
 abbrev pub line_given : LineStyle → Given → List ℕ
 line_given style Hello = []
 line_given style (Refused want) = refusal_at style.refusals want
-line_given style (Packet packet) = packet_line style.times packet
+line_given style (Packet packet) = line_of style.packets packet
 line_given style End = []
 
 abbrev pub lines_given : LineStyle → List Given → List ℕ

@@ -7,10 +7,10 @@ ghost use Rattle.reader_run.specs.Visits.{EndsVisits, asking, progress};
 
 use crate::fault::ListingFault;
 use crate::keeping::Keeper;
+use crate::packet_lines::PacketLines;
 use crate::reading::{is_told_at, read_further};
 use crate::record_sink::RecordSink;
 use crate::servers::Servers;
-use record_check::Times;
 use sl_io::Sink;
 use slreader::{Tally, Want};
 use std::alloc::Global;
@@ -33,7 +33,7 @@ pub enum Break<F> {
 /// written. What the keeper keeps counts exactly what was written and made to last before, over all connections.
 pub fn follow<S: Servers, O: Sink, P: RecordSink, K: Keeper<P>>(
     alloc: Global,
-    times: Times,
+    lines: PacketLines,
     wants: &[Want<'_>],
     tally: &mut Tally,
     servers: &mut S,
@@ -41,13 +41,13 @@ pub fn follow<S: Servers, O: Sink, P: RecordSink, K: Keeper<P>>(
     records: &mut P,
     keeper: &mut K,
 ) -> Result<(), Break<S::Fault>>
-    ensures ends { OnOk result (EndsVisits (asking wants.now times)
+    ensures ends { OnOk result (EndsVisits (asking wants.now lines)
         (progress tally.old (O.written out.old) (O.failures out.old) (O.empty_writes out.old)
         (P.written records.old) (P.failures records.old) (P.empty_writes records.old) (K.failures keeper.old))
         (progress tally.new (O.written out.new) (O.failures out.new) (O.empty_writes out.new)
         (P.written records.new) (P.failures records.new) (P.empty_writes records.new) (K.failures keeper.new))
         (S.told servers.old) (S.told servers.new)) }
-    ensures stops { IfErr result (λ why. StopsVisits why (asking wants.now times)
+    ensures stops { IfErr result (λ why. StopsVisits why (asking wants.now lines)
         (progress tally.old (O.written out.old) (O.failures out.old) (O.empty_writes out.old)
         (P.written records.old) (P.failures records.old) (P.empty_writes records.old) (K.failures keeper.old))
         (progress tally.new (O.written out.new) (O.failures out.new) (O.empty_writes out.new)
@@ -63,7 +63,7 @@ pub fn follow<S: Servers, O: Sink, P: RecordSink, K: Keeper<P>>(
         };
         let read = read_further(
             alloc,
-            times,
+            lines,
             wants,
             tally,
             &mut reader,

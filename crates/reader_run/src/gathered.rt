@@ -52,6 +52,8 @@ impl<S: Sink> RecordSink for Gathered<S> {
         self.records.clear();
     }
 
+    fn refuse(&mut self, _want: usize) {}
+
     fn put(&mut self, packet: &GivenPacket<'_>) -> Result<(), SinkFault> {
         match self.records.extend_from_slice(packet.record()) {
             Ok(()) => Ok(()),

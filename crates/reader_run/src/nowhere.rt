@@ -45,6 +45,8 @@ impl RecordSink for Nowhere {
 
     fn begin(&mut self) {}
 
+    fn refuse(&mut self, _want: usize) {}
+
     fn put(&mut self, _packet: &GivenPacket<'_>) -> Result<(), SinkFault> {
         Ok(())
     }

@@ -6,8 +6,8 @@
 ghost use Rattle.std.specs.Prelude.{◌≡◌, ◌++◌, ◌∷◌, [], map, OnOk};
 ghost use Rattle.reader_run.specs.Lines.{refusal_at, refusal_line};
 
+use crate::packet_lines::PacketLines;
 use crate::texts::{put_packet, refusal_line};
-use record_check::Times;
 use slreader::{GivenPacket, Plan, Want};
 use std::alloc::{AllocError, Global};
 use std::marker::Model;
@@ -69,7 +69,7 @@ fn refusal_at(refusals: &[RefusalLine], want: usize) -> &[u8]
 #[derive(Drop)]
 pub(crate) struct Output {
     refusals: Vec<RefusalLine>,
-    times: Times,
+    packets: PacketLines,
     lines: Vec<u8>,
     /// The line that is being made.
     line: Vec<u8>,
@@ -82,7 +82,7 @@ impl Model for Output {
     ghost Value = { OutputValue };
 
     ghost view = { λ o. record {
-      style = record { refusals = o.refusals.items; times = o.times };
+      style = record { refusals = o.refusals.items; packets = o.packets };
       lines = o.lines.items;
       records = [];
     } };
@@ -91,20 +91,29 @@ impl Model for Output {
 impl Output {
     ghost use Rattle.std.specs.Prelude.{◌≡◌, ◌++◌, [], length, take, IfOk, OnErr, OnOk};
     ghost use Rattle.slreader.specs.Views.{plan_value};
-    ghost use Rattle.reader_run.specs.Lines.{nothing_told, packet_line, refusal_at};
+    ghost use Rattle.reader_run.specs.Lines.{line_of, nothing_told, refusal_at};
 
     /// Nothing is told.
-    pub(crate) fn new(alloc: Global, times: Times, plan: &Plan<'_>) -> Result<Output, AllocError>
-        ensures { IfOk result (λ o. o ≡ nothing_told times (plan_value plan.now)) }
+    pub(crate) fn new(
+        alloc: Global,
+        packets: PacketLines,
+        plan: &Plan<'_>,
+    ) -> Result<Output, AllocError>
+        ensures { IfOk result (λ o. o ≡ nothing_told packets (plan_value plan.now)) }
     {
         let mut refusals = Vec::new(alloc);
-        match plan {
-            Plan::Uni(want) => put_refusal(alloc, &mut refusals, want)?,
-            Plan::Multi(wants) => put_refusals(alloc, &mut refusals, wants)?,
+        match (packets, plan) {
+            (PacketLines::Each(_), Plan::Uni(want)) => put_refusal(alloc, &mut refusals, want)?,
+            (PacketLines::Each(_), Plan::Multi(wants)) => put_refusals(
+                alloc,
+                &mut refusals,
+                wants,
+            )?,
+            (PacketLines::No, _) => {}
         }
         Ok(Output {
             refusals,
-            times,
+            packets,
             lines: Vec::new(alloc),
             line: Vec::new(alloc),
         })
@@ -113,11 +122,11 @@ impl Output {
     /// The line of a packet; or nothing.
     pub(crate) fn put_packet(&mut self, packet: &GivenPacket<'_>) -> Result<(), AllocError>
         ensures told { OnOk result (self.new
-            ≡ record self.old { lines = self.old.lines ++ packet_line self.old.style.times packet.now }) }
+            ≡ record self.old { lines = self.old.lines ++ line_of self.old.style.packets packet.now }) }
         ensures kept { OnErr result (self.new ≡ self.old) }
     {
         self.line.clear();
-        put_packet(&mut self.line, self.times, packet)?;
+        put_packet(&mut self.line, self.packets, packet)?;
         self.lines.extend_from_slice(&self.line)
     }
 

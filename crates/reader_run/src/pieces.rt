@@ -6,7 +6,7 @@ ghost use Rattle.sl_io.specs.Counts.{IsMore, StopsWriting};
 ghost use Rattle.slreader.specs.declared.fault.ReaderFault.TheVariants.{Limit};
 ghost use Rattle.slreader.specs.Dialogue.Stage.{Failed};
 ghost use Rattle.reader_run.specs.declared.fault.ListingFault.TheVariants.{Reader, State};
-ghost use Rattle.reader_run.specs.Lines.{beside, packet_line, record_of, with_lines, with_records};
+ghost use Rattle.reader_run.specs.Lines.{beside, line_of, record_of, with_lines, with_records};
 ghost use Rattle.reader_run.specs.Pieces.{FailsPiece, StopsPiece, TakesPiece, WritesRecordsFirst};
 ghost use Rattle.reader_run.specs.Takes.{StopsGiven, StopsTake};
 ghost use Rattle.slreader.specs.Whats.{what_value};
@@ -73,7 +73,7 @@ fn put_packet<P: RecordSink>(
     records: &mut P,
 ) -> Result<(), SinkFault>
     ensures lines { OnOk result (output.new ≡ record output.old {
-      lines = output.old.lines ++ packet_line output.old.style.times packet.now;
+      lines = output.old.lines ++ line_of output.old.style.packets packet.now;
     }) }
     ensures waits { OnOk result ((waiting : List ℕ) → P.Waits records.old waiting
         → P.Waits records.new (waiting ++ record_of packet.now)) }
@@ -122,7 +122,10 @@ fn put<P: RecordSink>(
         What::Nothing => Ok(()),
         What::Hello => Ok(()),
         What::Refused(want) => match output.put_refused(*want) {
-            Ok(()) => Ok(()),
+            Ok(()) => {
+                records.refuse(*want);
+                Ok(())
+            }
             Err(_) => Err(SinkFault::OutOfMemory),
         },
         What::Packet(packet) => put_packet(output, packet, records),

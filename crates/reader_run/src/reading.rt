@@ -22,9 +22,9 @@ ghost use Rattle.reader_run.specs.Stops.{EndsReads, StopsOver, writes};
 use crate::fault::ListingFault;
 use crate::keeping::{Keeper, NothingKept, keep_behind, keep_if_due};
 use crate::output::Output;
+use crate::packet_lines::PacketLines;
 use crate::pieces::read_once;
 use crate::record_sink::RecordSink;
-use record_check::Times;
 use sl_io::{Sink, Source};
 use slreader::{Plan, ReaderCore, ReaderFault, Tally, Want};
 use std::alloc::Global;
@@ -93,14 +93,14 @@ struct Begun {
 /// An output in which nothing is told, and a block to read into.
 fn output_for(
     alloc: Global,
-    times: Times,
+    lines: PacketLines,
     plan: &Plan<'_>,
 ) -> Result<(Output, Vec<u8>), ListingFault>
-    ensures output { IfOk result (λ made. made.0 ≡ nothing_told times (plan_value plan.now)) }
+    ensures output { IfOk result (λ made. made.0 ≡ nothing_told lines (plan_value plan.now)) }
     ensures block { IfOk result (λ made. vec_len made.1 ≡ 65536) }
     ensures memory { IfErr result (λ fault. fault ≡ Reader OutOfMemory) }
 {
-    let Ok(output) = Output::new(alloc, times, plan) else {
+    let Ok(output) = Output::new(alloc, lines, plan) else {
         return Err(ListingFault::Reader(ReaderFault::OutOfMemory));
     };
     match vec![in alloc; 0; BLOCK] {
@@ -110,14 +110,14 @@ fn output_for(
 }
 
 /// What a reading by a plan begins with.
-fn begin(alloc: Global, times: Times, plan: Plan<'_>) -> Result<Begun, ListingFault>
+fn begin(alloc: Global, lines: PacketLines, plan: Plan<'_>) -> Result<Begun, ListingFault>
     ensures core { IfOk result (λ b. b.core ≡ begun (plan_value plan.entry)) }
-    ensures output { IfOk result (λ b. b.output ≡ nothing_told times (plan_value plan.entry)) }
+    ensures output { IfOk result (λ b. b.output ≡ nothing_told lines (plan_value plan.entry)) }
     ensures block { IfOk result (λ b. vec_len b.block ≡ 65536) }
     ensures plan { OnOk result (is_plan (plan_value plan.entry) ≡ true) }
     ensures fault { IfErr result (λ fault. IsNotBegunBy fault (plan_value plan.entry)) }
 {
-    let (output, block) = output_for(alloc, times, &plan)?;
+    let (output, block) = output_for(alloc, lines, &plan)?;
     match ReaderCore::new(alloc, plan) {
         Ok(core) => Ok(Begun {
             core,
@@ -147,21 +147,21 @@ fn begin(alloc: Global, times: Times, plan: Plan<'_>) -> Result<Begun, ListingFa
 /// transfer, or where 2^64 - 1 reads were made; and with Write where something could not be written.
 pub fn read_over<R: Source, W: Sink, O: Sink, P: RecordSink>(
     alloc: Global,
-    times: Times,
+    lines: PacketLines,
     plan: Plan<'_>,
     reader: &mut R,
     writer: &mut W,
     out: &mut O,
     records: &mut P,
 ) -> Result<(), ListingFault>
-    ensures ends { OnOk result (Ends (begun (plan_value plan.entry)) (style_of times (plan_value plan.entry))
+    ensures ends { OnOk result (Ends (begun (plan_value plan.entry)) (style_of lines (plan_value plan.entry))
         (R.left reader.old) (R.left reader.new) (W.written writer.old) (W.written writer.new)
         (O.written out.old) (O.written out.new) (P.written records.old) (P.written records.new)) }
     ensures told { IfErr result (λ fault. is_told_before fault ≡ true →
-        StopsAt fault (begun (plan_value plan.entry)) (style_of times (plan_value plan.entry))
+        StopsAt fault (begun (plan_value plan.entry)) (style_of lines (plan_value plan.entry))
         (R.left reader.old) (R.left reader.new) (W.written writer.old) (W.written writer.new)
         (O.written out.old) (O.written out.new) (P.written records.old) (P.written records.new)) }
-    ensures order { RecordsFirst (begun (plan_value plan.entry)) (style_of times (plan_value plan.entry))
+    ensures order { RecordsFirst (begun (plan_value plan.entry)) (style_of lines (plan_value plan.entry))
         (R.left reader.old) (R.left reader.new)
         (O.written out.old) (O.written out.new) (P.written records.old) (P.written records.new) }
     ensures limit { IfErr result (λ fault. fault ≡ Reader Limit → is_plan (plan_value plan.entry) ≡ false) }
@@ -178,7 +178,7 @@ pub fn read_over<R: Source, W: Sink, O: Sink, P: RecordSink>(
         (writes (P.failures records.old) (P.empty_writes records.old))
         (writes (P.failures records.new) (P.empty_writes records.new))) }
 {
-    let mut begun = begin(alloc, times, plan)?;
+    let mut begun = begin(alloc, lines, plan)?;
     read_blocks(
         &mut begun.core,
         &mut begun.output,
@@ -219,12 +219,12 @@ fn is_told(outcome: &Result<(), ListingFault>) -> bool
 /// What a reading begins with that goes on: a reader by the plan by which wants go on, which counts on.
 fn begin_further(
     alloc: Global,
-    times: Times,
+    lines: PacketLines,
     wants: &[Want<'_>],
     tally: &Tally,
 ) -> Result<Begun, ListingFault>
     ensures core { IfOk result (λ b. b.core ≡ begun_at (plan_on tally.now wants.now) tally.now) }
-    ensures output { IfOk result (λ b. b.output ≡ nothing_told times (plan_on tally.now wants.now)) }
+    ensures output { IfOk result (λ b. b.output ≡ nothing_told lines (plan_on tally.now wants.now)) }
     ensures block { IfOk result (λ b. vec_len b.block ≡ 65536) }
     ensures fault { IfErr result (λ fault. IsNotBegunBy fault (plan_on tally.now wants.now)) }
 {
@@ -234,7 +234,7 @@ fn begin_further(
     let Ok(counted) = tally.copy(alloc) else {
         return Err(ListingFault::Reader(ReaderFault::OutOfMemory));
     };
-    let (output, block) = output_for(alloc, times, &plan)?;
+    let (output, block) = output_for(alloc, lines, &plan)?;
     match ReaderCore::going_on(alloc, plan, counted) {
         Ok(core) => Ok(Begun {
             core,
@@ -300,7 +300,7 @@ fn count(tally: &mut Tally, begun: Begun, is_told: bool)
 /// keeper fails.
 pub fn read_further<R: Source, W: Sink, O: Sink, P: RecordSink, K: Keeper<P>>(
     alloc: Global,
-    times: Times,
+    lines: PacketLines,
     wants: &[Want<'_>],
     tally: &mut Tally,
     reader: &mut R,
@@ -310,17 +310,17 @@ pub fn read_further<R: Source, W: Sink, O: Sink, P: RecordSink, K: Keeper<P>>(
     keeper: &mut K,
 ) -> Result<(), ListingFault>
     ensures ends { OnOk result (EndsCounted (begun_at (plan_on tally.old wants.now) tally.old) tally.new
-        (style_of times (plan_on tally.old wants.now))
+        (style_of lines (plan_on tally.old wants.now))
         (R.left reader.old) (R.left reader.new) (W.written writer.old) (W.written writer.new)
         (O.written out.old) (O.written out.new) (P.written records.old) (P.written records.new)) }
     ensures told { IfErr result (λ fault. is_told_before fault ≡ true →
         StopsCounted fault (begun_at (plan_on tally.old wants.now) tally.old) tally.new
-        (style_of times (plan_on tally.old wants.now))
+        (style_of lines (plan_on tally.old wants.now))
         (R.left reader.old) (R.left reader.new) (W.written writer.old) (W.written writer.new)
         (O.written out.old) (O.written out.new) (P.written records.old) (P.written records.new)) }
     ensures kept { IfErr result (λ fault. is_told_before fault ≡ false → tally.new ≡ tally.old) }
     ensures order { RecordsFirst (begun_at (plan_on tally.old wants.now) tally.old)
-        (style_of times (plan_on tally.old wants.now)) (R.left reader.old) (R.left reader.new)
+        (style_of lines (plan_on tally.old wants.now)) (R.left reader.old) (R.left reader.new)
         (O.written out.old) (O.written out.new) (P.written records.old) (P.written records.new) }
     ensures plan { IfErr result (λ fault. fault ≡ Reader Limit → is_plan (plan_on tally.old wants.now) ≡ false) }
     ensures behind { KeepsCounted (begun_at (plan_on tally.old wants.now) tally.old) (P.written records.old)
@@ -340,7 +340,7 @@ pub fn read_further<R: Source, W: Sink, O: Sink, P: RecordSink, K: Keeper<P>>(
         (writes (P.failures records.old) (P.empty_writes records.old))
         (writes (P.failures records.new) (P.empty_writes records.new))) }
 {
-    let mut begun = begin_further(alloc, times, wants, tally)?;
+    let mut begun = begin_further(alloc, lines, wants, tally)?;
     let read = read_blocks(
         &mut begun.core,
         &mut begun.output,

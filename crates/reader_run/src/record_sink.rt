@@ -42,6 +42,13 @@ pub trait RecordSink {
         ensures failures { failures self.new ≡ failures self.old }
         ensures empty { empty_writes self.new ≡ empty_writes self.old };
 
+    /// The server refuses a want, by its place among all wants: no record comes of it.
+    fn refuse(&mut self, want: usize)
+        ensures waits { (records : List ℕ) → Waits self.old records → Waits self.new records }
+        ensures written { written self.new ≡ written self.old }
+        ensures failures { failures self.new ≡ failures self.old }
+        ensures empty { empty_writes self.new ≡ empty_writes self.old };
+
     /// Puts the record of a packet where it belongs.
     fn put(&mut self, packet: &GivenPacket<'_>) -> Result<(), SinkFault>
         ensures waits { OnOk result ((records : List ℕ) → Waits self.old records

@@ -1,8 +1,9 @@
 //! The lines of packets and of wants that are refused.
 ghost use Rattle.std.specs.Prelude.{◌≡◌, ◌++◌, ◌∷◌, [], map, slice_range, IfOk, OnOk};
 ghost use Rattle.std.specs.Char.{to_ascii_uppercase};
-ghost use Rattle.reader_run.specs.Lines.{facts_text, number_text, packet_line, record_of, refusal_line};
+ghost use Rattle.reader_run.specs.Lines.{facts_text, line_of, number_text, packet_line, record_of, refusal_line};
 
+use crate::packet_lines::PacketLines;
 use mseed_header::Header;
 use record_check::{Times, put_header};
 use slreader::{GivenPacket, Want};
@@ -53,17 +54,27 @@ fn put_facts(
 }
 
 /// The line of a packet.
-pub(crate) fn put_packet(
-    text: &mut Vec<u8>,
-    times: Times,
-    packet: &GivenPacket<'_>,
-) -> Result<(), AllocError>
+fn put_line(text: &mut Vec<u8>, times: Times, packet: &GivenPacket<'_>) -> Result<(), AllocError>
     ensures { OnOk result (text.new.items ≡ text.old.items ++ packet_line times packet.now) }
 {
     put_number(text, packet.bytes())?;
     put_facts(text, times, packet.header())?;
     text.push(b'\n')?;
     Ok(())
+}
+
+/// The line of a packet, if packets have lines.
+pub(crate) fn put_packet(
+    text: &mut Vec<u8>,
+    lines: PacketLines,
+    packet: &GivenPacket<'_>,
+) -> Result<(), AllocError>
+    ensures { OnOk result (text.new.items ≡ text.old.items ++ line_of lines packet.now) }
+{
+    match lines {
+        PacketLines::Each(times) => put_line(text, times, packet),
+        PacketLines::No => Ok(()),
+    }
 }
 
 /// The line of a want that is refused.

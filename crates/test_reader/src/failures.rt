@@ -6,7 +6,7 @@ ghost use Rattle.std.specs.Prelude.{◌≡◌, ◌<◌, ◌+◌, ◌%◌, ◌^�
 use crate::beside_a_server::{ASKED, plan};
 use crate::pieces::{Piece, joined};
 use Piece::{Bytes, Record};
-use reader_run::{Gathered, ListingFault, Times, read_over};
+use reader_run::{Gathered, ListingFault, PacketLines, Times, read_over};
 use sl_io::{DeviceFault, Failing, MemorySource, Sink};
 use std::alloc::Global;
 use std::ops::Range;
@@ -188,7 +188,7 @@ fn reading(alloc: Global, answers: &[u8], piece: usize, limits: Limits) -> Resul
     let mut records = Gathered::new(alloc, output(alloc, limits.records));
     let answer = read_over(
         alloc,
-        Times::Ticks,
+        PacketLines::Each(Times::Ticks),
         plan,
         &mut reader,
         &mut asked,

@@ -10,7 +10,7 @@ invariant-connections g l = record {
   follows : Follows l.wants l.fn.tally (g.P.RecordSink.written l.fn.records) l.tally (g.P.RecordSink.written l.records);
   behind : KeepsBehind (λ t w. Follows l.wants l.fn.tally (g.P.RecordSink.written l.fn.records) t w)
       (g.K.Keeper.done l.fn.keeper) (g.K.Keeper.done l.keeper);
-  visited : Visited (asking l.wants l.times)
+  visited : Visited (asking l.wants l.lines)
       (progress l.fn.tally (g.O.Sink.written l.fn.out) (g.O.Sink.failures l.fn.out) (g.O.Sink.empty_writes l.fn.out)
       (g.P.RecordSink.written l.fn.records) (g.P.RecordSink.failures l.fn.records) (g.P.RecordSink.empty_writes l.fn.records)
       (g.K.Keeper.failures l.fn.keeper))

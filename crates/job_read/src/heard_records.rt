@@ -1,0 +1,123 @@
+//! Records on their way to where they are put, of which it is told what a reader meets: a station that is refused, and a
+//! jump in the numbers of one.
+ghost use Rattle.std.specs.Prelude.{◌≡◌};
+
+use crate::archiving::Lasting;
+use crate::hearing::Listener;
+use crate::notices::{ErrorTeller, Notice, Teller};
+use crate::reading::Reading;
+use continued_files::FileLength;
+use disk_files::FileFailure;
+use reader_run::{RecordSink, SinkFault};
+use sl_io::WriteFault;
+use slreader::GivenPacket;
+
+/// Where records are put. What is met is told if somebody listens.
+#[derive(Drop)]
+pub struct HeardRecords<'r, 'a, 'w, P> {
+    inner: P,
+    rt: &'r HostRuntime,
+    reading: &'r Reading<'a, 'w>,
+    teller: ErrorTeller<'r>,
+    listener: Option<Listener>,
+}
+
+impl<'r, 'a, 'w, P> HeardRecords<'r, 'a, 'w, P> {
+    /// Records that are put into `inner`.
+    pub fn new(
+        rt: &'r HostRuntime,
+        reading: &'r Reading<'a, 'w>,
+        inner: P,
+    ) -> HeardRecords<'r, 'a, 'w, P>
+        ensures { result.inner ≡ inner }
+    {
+        HeardRecords {
+            inner,
+            rt,
+            reading,
+            teller: ErrorTeller::new(rt),
+            listener: None,
+        }
+    }
+
+    /// What is met is told from now on.
+    pub fn listen(&mut self, listener: Listener)
+        ensures { self.new.inner ≡ self.old.inner }
+    {
+        self.listener = Some(listener);
+    }
+
+    /// Where they are put.
+    pub fn inner_mut(&mut self) -> &mut P {
+        &mut self.inner
+    }
+
+    /// Where they were put, once no more come.
+    pub fn into_inner(self) -> P
+        ensures { result ≡ self.entry.inner }
+    {
+        self.inner
+    }
+
+    /// Tells that a want is refused, by its place, and has it asked again after a while.
+    fn tell_refused(&mut self, want: usize)
+        ensures { self.new.inner ≡ self.old.inner }
+    {
+        if self.listener.is_none() {
+            return;
+        }
+        self.reading.renewal.refuse(self.rt);
+        if let Some(want) = self.reading.wants.get(want) {
+            self.teller.tell(&Notice::Refused {
+                network: want.network,
+                station: want.station,
+            });
+        }
+    }
+
+    /// Tells what is met with a packet.
+    fn tell_packet(&mut self, packet: &GivenPacket<'_>)
+        ensures { self.new.inner ≡ self.old.inner }
+    {
+        if let Some(listener) = &mut self.listener {
+            listener.hear(self.rt, packet, &mut self.teller);
+        }
+    }
+}
+
+impl<P: RecordSink> RecordSink for HeardRecords<'_, '_, '_, P> {
+    ghost written = { λ h. P.written h.inner };
+
+    ghost Waits = { λ h records. P.Waits h.inner records };
+
+    ghost failures = { λ h. P.failures h.inner };
+
+    ghost empty_writes = { λ h. P.empty_writes h.inner };
+
+    fn begin(&mut self) {
+        self.inner.begin();
+    }
+
+    fn refuse(&mut self, want: usize) {
+        self.inner.refuse(want);
+        self.tell_refused(want);
+    }
+
+    fn put(&mut self, packet: &GivenPacket<'_>) -> Result<(), SinkFault> {
+        self.inner.put(packet)?;
+        self.tell_packet(packet);
+        Ok(())
+    }
+
+    fn hand_on(&mut self) -> Result<(), WriteFault> {
+        self.inner.hand_on()
+    }
+}
+
+impl<P: Lasting> Lasting for HeardRecords<'_, '_, '_, P> {
+    ghost Lasts = { λ h lengths. P.Lasts h.inner lengths };
+
+    fn make_last(&self) -> Result<Option<Vec<FileLength>>, FileFailure> {
+        self.inner.make_last()
+    }
+}
