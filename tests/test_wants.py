@@ -355,14 +355,15 @@ class Kept(scripted.Test):
 
 
 # What a status port sends, and what comes of it.
-PLAIN = b"a title\x1b[2J\n\nNET\tSTATION\tAGE\nGE\tAPE\t7\nXX\tW\t1200\n\nN\tHERE\n12\t3\n"
-SHOWN = "a title?[2J\n\nNET  STATION  AGE\nGE   APE      7\nXX   W        1200\n\nN   HERE\n12  3\n"
+PLAIN = b"a title\x1b[2J\n\nNET\tSTATION\tSTATE\tAGE\nGE\tAPE\tok\t7\nXX\tW\tok\t1200\n\nN\tHERE\n12\t3\n"
+SHOWN = "a title?[2J\n\nNET  STATION  STATE  AGE\nGE   APE      ok     7\nXX   W        ok     1200\n\nN   HERE\n12  3\n"
 HEAD = b"HTTP/1.1 %b\r\nContent-Type: text/plain; charset=utf-8\r\nContent-Length: %d\r\nConnection: close\r\n\r\n"
-SILENT = HEAD % (b"503 Service Unavailable", 8) + b"NET\tSTA\n"
+TABLE = b"T\n\nNET\tSTATION\tSTATE\tAGE\n"
+SILENT = HEAD % (b"503 Service Unavailable", len(TABLE)) + TABLE
 ANSWERS = [
     ("a healthy server", HEAD % (b"200 OK", len(PLAIN)) + PLAIN, SHOWN + "status 0"),
-    ("a silent station", SILENT, "NET  STA\nstatus 1"),
-    ("no station", b"HTTP/1.1 200 OK\r\nContent-Length: 0\r\n\r\n", "status 0"),
+    ("a silent station", SILENT, "T\n\nNET  STATION  STATE  AGE\nstatus 1"),
+    ("no station", HEAD % (b"200 OK", len(TABLE)) + TABLE, "T\n\nNET  STATION  STATE  AGE\nstatus 0"),
     ("another page", b"HTTP/1.1 404 Not Found\r\nContent-Length: 0\r\n\r\n", "seedlinkd: 52 BadReply\nstatus 1"),
     ("another server", b"ERROR\r\n", "seedlinkd: 52 BadReply\nstatus 1"),
 ]
