@@ -161,12 +161,5 @@ class Once(kit.Test):
         self.assert_last_ones_are_missing("archive", feeder.begins, feeder.fed)
 
     @kit.unreleased
-    @kit.limit(90)
     def test_a_few_planned_restarts(self):
-        self.restart_and_go_on(3, 95)
-
-    @kit.slow
-    @kit.unreleased
-    @kit.limit(120 + 3 * STOPS)
-    def test_many_planned_restarts(self):
-        self.restart_and_go_on(max(STOPS // 5, 1), int(os.environ.get("TRIED_SEED", random.randrange(1_000_000))))
+        self.restart_and_go_on(2, 95)
