@@ -94,23 +94,30 @@ class Again(kit.Test):
         self.fetch(server, "GE_WLF", *into)
         self.assert_once(path, 13)
 
-    def test_a_planned_restart(self):
+    @kit.rows(INTO)
+    def test_a_planned_restart(self, into, path, _):
         """`examples/restart` feeds a new server what the old one held, under other numbers. The reader follows all the time."""
         server = self.serve(CONFIG.replace("16384", "40"), "--numbers", "numbers")
-        self.reader(server, "GE_WLF@0", "--retry", "1", "--state", "state", "--archive", "archive")
+        self.reader(server, "GE_WLF@0", "--retry", "1", "--state", "state", *into)
         for first, end in ((0, 20), (20, 50)):
             server.feed(*map(record, range(first, end)))
-            kit.until(lambda: os.path.exists(DAY) and kit.identities_in(DAY) == list(range(end)), "%d records" % end)
+            kit.until(lambda: os.path.exists(path) and kit.identities_in(path) == list(range(end)), "%d records" % end)
         kit.restart_by_script(self, server, server.process.pid, "held", "--numbers", "numbers")
         kit.write("more", b"".join(map(record, range(50, 60))))
         self.assertEqual(self.run_program("feed", server.feed_address, "more").status, 0)
-        kit.until(lambda: set(range(60)) <= set(kit.identities_in(DAY)), "60 records")
-        self.assert_once(DAY, 60)
+        kit.until(lambda: set(range(60)) <= set(kit.identities_in(path)), "60 records")
+        self.assert_once(path, 60)
 
-    def test_a_server_whose_numbers_are_ahead(self):
-        self.fetch(self.server_of(10), "GE_WLF", "--archive", "archive")
-        self.fetch(self.server_of(15, CONFIG + 'first = "1388"\n'), "GE_WLF", "--archive", "archive")
-        self.assert_once(DAY, 15)
+    @kit.rows(INTO)
+    def test_a_server_whose_numbers_are_ahead(self, into, path, _):
+        self.fetch(self.server_of(10), "GE_WLF", *into)
+        self.fetch(self.server_of(15, CONFIG + 'first = "1388"\n'), "GE_WLF", *into)
+        self.assert_once(path, 15)
+
+    def test_what_stands_in_one_file_before_is_left_as_it_is(self):
+        kit.write("records", b"".join(map(record, range(5))))
+        self.fetch(self.server_of(10), "GE_WLF", "--output", "records")
+        self.assertEqual(kit.identities_in("records"), list(range(5)) + list(range(10)))
 
     @kit.rows(INTO)
     def test_two_lines_of_one_file(self, into, path, name):

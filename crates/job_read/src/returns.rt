@@ -1,10 +1,11 @@
 //! Numbers of stations that don't follow on each other: the server is behind another one, or numbers anew, and may hand
 //! records once more.
 //!
-//! A jump forth at the beginning of a connection is one, too, if all records of the station are asked for and files end
-//! with their days: a server that numbers for itself may be ahead. To take one for such a server costs that files are
-//! read once, not to do so doubles records. A station whose packets have not come since the last return needs none: all
-//! of each file is tail since then.
+//! A jump forth at the beginning of a connection is one, too, if all records of the station are asked for: a server that
+//! numbers for itself may be ahead. To take one for such a server costs that files are read once, not to do so doubles
+//! records. The first packet of a station is one in an archive, which may have records of it, and none in one file: what
+//! stands there before is left as it is. A station whose packets have not come since the last return needs none: all of
+//! each file is tail since then.
 ghost use Rattle.std.specs.Prelude.{◌≡◌, ◌<◌, IfSome, length};
 ghost use Rattle.job_read.specs.Returns.{is_jump};
 
@@ -18,6 +19,8 @@ use std::alloc::{AllocError, Global};
 struct Numbered {
     network: Vec<u8>,
     station: Vec<u8>,
+    /// Whether its first packet is a jump.
+    is_first: bool,
     /// Whether each number that is not the next one is a jump, at the beginning of a connection.
     is_each: bool,
     /// The connection over which the last packet came.
@@ -35,14 +38,14 @@ impl Numbered {
 }
 
 /// Whether a packet with that number doesn't follow on the last one of its station.
-fn is_jump(is_each: bool, last: Option<Seq>, number: Seq) -> bool
-    ensures { result ≡ is_jump is_each last number }
+fn is_jump(is_first: bool, is_each: bool, last: Option<Seq>, number: Seq) -> bool
+    ensures { result ≡ is_jump is_first is_each last number }
 {
     match last {
         Some(last) => {
             number.value() != last.next().value() && (is_each || number.value() <= last.value())
         }
-        None => is_each,
+        None => is_first,
     }
 }
 
@@ -60,21 +63,22 @@ impl LastNumbers {
         }
     }
 
-    /// Those of the stations of wants, as a state has them. If each jump counts, it does for stations of which all
-    /// records are asked for.
+    /// Those of the stations of wants, as a state has them; for an archive, or for one file.
     pub fn new(
         alloc: Global,
         wants: &[Want<'_>],
         lasts: &[LastPacket],
-        is_each: bool,
+        is_archive: bool,
     ) -> Result<LastNumbers, AllocError> {
         let mut all = Vec::new(alloc);
         for want in wants {
             let reached = last_at(want.network, want.station, lasts);
+            let is_each = are_whole(want.network, want.station, wants);
             all.push(Numbered {
                 network: Vec::from_slice(alloc, want.network)?,
                 station: Vec::from_slice(alloc, want.station)?,
-                is_each: is_each && are_whole(want.network, want.station, wants),
+                is_first: is_each && is_archive,
+                is_each,
                 connection: 0,
                 last: reached.map(|reached| reached.number),
                 is_passed: true,
@@ -110,7 +114,7 @@ impl LastNumbers {
     {
         let one = &mut self.all[at];
         let is_each = one.is_each && one.connection != connection;
-        let is_return = one.is_passed && is_jump(is_each, one.last, number);
+        let is_return = one.is_passed && is_jump(one.is_first, is_each, one.last, number);
         one.last = Some(number);
         one.connection = connection;
         if is_return {
