@@ -28,11 +28,11 @@ def record(number):
 
 
 class Feeder(threading.Thread):
-    """Feeds records to whatever listens at a port, a few at a time, until it is over."""
+    """Feeds records to whatever listens at a port, a few at a time, until it is over; or those of another feeder, some behind it."""
 
-    def __init__(self, port, first, chance):
+    def __init__(self, port, first, chance, leader=None):
         super().__init__(daemon=True)
-        self.port, self.fed, self.chance, self.is_over = port, first, chance, False
+        self.port, self.fed, self.chance, self.is_over, self.leader = port, first, chance, False, leader
         # The first record that was sent over each connection; there is one for each server, or more.
         self.begins = []
 
@@ -44,7 +44,8 @@ class Feeder(threading.Thread):
                     connection = socket.create_connection((kit.HERE, self.port), timeout=5)
                     self.begins.append(self.fed)
                 first = self.fed
-                self.fed += self.chance.randint(1, 16)
+                end = self.leader.fed - 5 if self.leader else self.fed + 16
+                self.fed += self.chance.randint(1, max(min(16, end - first), 1)) if end > first else 0
                 connection.sendall(b"".join(map(record, range(first, self.fed))))
             except OSError:
                 connection = None
@@ -138,6 +139,80 @@ class Once(kit.Test):
     @kit.limit(120 + 3 * STOPS)
     def test_many_stops(self):
         self.stop_and_start(STOPS, int(os.environ.get("TRIED_SEED", random.randrange(1_000_000))))
+
+    def stop_among_servers(self, stops, seed):
+        """Two servers, of which one is behind and numbers anew whenever it is started; the other one goes on with its numbers, and is
+        restarted by `examples/restart` too. Readers go from one to the other."""
+        self.note("once: TRIED_SEED=%d" % seed) if stops == STOPS else None
+        chance = random.Random(seed)
+        self.config = CONFIG.replace("16384", "2048")
+        self.leading, self.behind = self.serve(self.config, "--numbers", "numbers"), self.serve(self.config)
+        self.process, self.anew = self.leading.process.pid, 0
+        self.readers = {it: self.read_of_both(it) for it in self.KINDS}
+        first = Feeder(self.leading.feeds, 0, random.Random(seed + 1))
+        second = Feeder(self.behind.feeds, 0, random.Random(seed + 2), first)
+        first.start()
+        second.start()
+        for number in range(stops):
+            time.sleep(chance.random() * 1.5)
+            what = chance.choice(self.KINDS * 2 + ("leading", "behind", "by the script"))
+            if what in self.KINDS:
+                self.readers[what].end(chance.choice((signal.SIGKILL, signal.SIGTERM)))
+                self.readers[what] = self.read_of_both(what)
+            elif what == "behind":
+                self.number_anew()
+            else:
+                self.start_again(what == "leading", "held-%d" % number)
+        enough = second.fed + 50
+        kit.until(lambda: second.fed >= enough, "records that the server behind is fed")
+        second.finish()
+        first.finish()
+        # Whoever is at the other one goes there now.
+        self.end_leading()
+        for it in self.KINDS:
+            self.await_all(it, range(second.begins[-1], second.fed))
+
+    def read_of_both(self, kind):
+        wants = ["GE_%s@000000" % it for it in STATIONS]
+        both = [self.leading, self.behind]
+        return self.reader(both, *wants, "--retry", "1", "--timeout", "20", "--" + kind, kind, "--state", kind + ".state")
+
+    def number_anew(self):
+        """The server that is behind is started again, with other numbers that no server gave."""
+        self.behind.end(signal.SIGKILL)
+        self.anew += 1
+        first = 'capacity = 2048\nfirst = "%06X"' % (self.anew * 7_000_003 % (1 << 24))
+        kit.write(self.behind.config, self.config.replace("capacity = 2048", first))
+        self.behind = self.keep(self.behind.again())
+
+    def end_leading(self):
+        kit.end_process(self.process)
+
+        def is_gone():
+            with contextlib.suppress(OSError), socket.create_connection((kit.HERE, self.leading.feeds), timeout=1):
+                return False
+            return True
+
+        kit.until(is_gone, "the end of a server")
+
+    def start_again(self, is_killed, held):
+        """The other server is started again, with its file of numbers: it is killed, or ended by the script."""
+        if is_killed:
+            self.end_leading()
+            self.process = self.keep(self.leading.again("--numbers", "numbers")).process.pid
+        else:
+            self.process = kit.restart_by_script(self, self.leading, self.process, held, "--numbers", "numbers")
+
+    @kit.unreleased
+    @kit.limit(90)
+    def test_a_few_stops_among_servers(self):
+        self.stop_among_servers(10, 96)
+
+    @kit.slow
+    @kit.unreleased
+    @kit.limit(200 + 4 * STOPS)
+    def test_many_stops_among_servers(self):
+        self.stop_among_servers(STOPS, int(os.environ.get("TRIED_SEED", random.randrange(1_000_000))))
 
     def restart_and_go_on(self, restarts, seed):
         """`examples/restart` feeds the server anew what it held, under other numbers, while a reader is killed."""
