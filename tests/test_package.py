@@ -197,7 +197,7 @@ class Package(Made):
                 at = os.path.dirname(at)
         self.assertEqual(modes[folder + "/etc/seedlinkd/seedlinkd.toml"], 0o640)
         for path in ["usr/bin/seedlinkd", "etc/seedlinkd/seedlinkd.toml", "usr/share/bash-completion/completions/seedlinkd",
-                     "usr/lib/sysusers.d/seedlinkd.conf", DOC + "/PROFILE.md", DOC + "/OPERATING.md", DOC + "/examples/demo"]:
+                     "usr/lib/sysusers.d/seedlinkd.conf", DOC + "/COMMANDS.md", DOC + "/OPERATING.md", DOC + "/examples/demo"]:
             self.assertIn(path, packed)
         for unit in glob.glob(os.path.join(kit.TREE, "examples/*.service")):
             text = packed["usr/lib/systemd/system/" + os.path.basename(unit)].decode()
@@ -245,7 +245,7 @@ class Package(Made):
         self.make()
         self.unpack()
         pages = {path: data.decode() for path, data in kit.files_below(self.folder + "/" + DOC).items() if path.endswith(".md")}
-        for name in ("PROFILE", "OPERATING", "STATUS", "MIGRATING", "DEFINITIONS", "CHANGELOG"):
+        for name in ("PROFILE", "CONFIGURATION", "COMMANDS", "DIALOGUE", "OPERATING", "STATUS", "MIGRATING", "DEFINITIONS", "CHANGELOG"):
             self.assertIn(name + ".md", pages)
         for page, text in pages.items():
             for target, anchor in re.findall(r"\]\(([^)#\s]*)(?:#([^)\s]+))?\)", text):
@@ -464,11 +464,12 @@ class BareDebian(Made):
             done = subprocess.run(["chroot", self.bare, "man", "--warnings", "-l", "/usr/share/man/%s.gz" % page],
                                   stdout=subprocess.PIPE, stderr=subprocess.PIPE, check=False)
             self.assertEqual((done.returncode, done.stderr), (0, b""))
-        cells = re.findall(r"^\| ([^|]*) \|", text_of(self.path(DOC + "/PROFILE.md")), re.M)
+        pages = "".join(text_of(self.path("%s/%s.md" % (DOC, it))) for it in ("CONFIGURATION", "COMMANDS", "DIALOGUE"))
+        cells = re.findall(r"^\| ([^|]*) \|", pages, re.M)
         of_profile = {it for cell in cells for it in re.findall(r"\d+ [A-Z][a-z][A-Za-z0-9]*", cell)}
         manual = gzip.decompress(kit.bytes_of(self.path("usr/share/man/man8/seedlinkd.8.gz"))).decode()
         self.assertEqual(set(re.findall(r"^\.It (\d+ [A-Z][A-Za-z0-9]*)$", manual, re.M)), of_profile)
-        self.note("%d faults in the manual page, as in PROFILE.md" % len(of_profile))
+        self.note("%d faults in the manual page, as in the other pages" % len(of_profile))
 
     def upgrade(self):
         """To a newer package, with a configuration that was changed."""

@@ -17,10 +17,15 @@ CRATE_LINES = (5, 42)
 # The page of this crate is the reference of a format.
 MOST_LINES_OF_A_FORMAT = {"dialogues": 70}
 MOST_IN_A_ROW = 600
+# In a page for whoever runs the program, a sentence has at most so many words, and a paragraph.
+PAGES_FOR_USERS = ["README.md", "SECURITY.md"] + [
+    "docs/%s.md" % it for it in "PROFILE CONFIGURATION COMMANDS DIALOGUE OPERATING STATUS MIGRATING TRUST".split()]
+MOST_IN_A_SENTENCE = 40
+MOST_IN_A_PARAGRAPH = 120
 # The gate tries at most so many edits.
 MOST_EDITS = 50
 # Names in code spans that are of the library, of the system or of other programs.
-NAMES_OF_OTHERS = {"delete_queue", "map_or", "overcommit_memory"}
+NAMES_OF_OTHERS = {"delete_queue", "jiff_fmt", "map_or", "overcommit_memory"}
 
 
 def text_of(path):
@@ -99,6 +104,28 @@ def names_that_are_gone(page, words):
         for name in re.findall(r"(?<![\w$%.-])[a-z][a-z0-9]*_[a-z0-9_]+(?![\w-])", span):
             if name not in words and name not in NAMES_OF_OTHERS:
                 yield "%s: nothing is called %s" % (page, name)
+
+
+def paragraphs(text):
+    """The paragraphs and points of lists of a page, a line each, in which a code span is a word and a link its words."""
+    text = re.sub(r"^```.*?^```", "", text, flags=re.M | re.S)
+    text = re.sub(r"^(?:    |[|#<]).*$", "", text, flags=re.M)
+    for part in re.split(r"\n\s*\n|\n(?= *(?:- |\d+\. ))", text):
+        yield re.sub(r"\]\([^)]*\)", "]", re.sub(r"`[^`]*`", "CODE", " ".join(part.split())))
+
+
+def words_in(text):
+    return len(re.findall(r"[\w'-]+", text))
+
+
+def long_texts(page):
+    """Sentences and paragraphs that nobody reads once."""
+    for it in paragraphs(text_of(page)):
+        if words_in(it) > MOST_IN_A_PARAGRAPH:
+            yield "%s: a paragraph of %d words, of at most %d: %.60s" % (page, words_in(it), MOST_IN_A_PARAGRAPH, it)
+        for sentence in re.split(r"(?<=[.!?:])[)\"*]*\s+(?=[A-Z*(\[\d])", it):
+            if words_in(sentence) > MOST_IN_A_SENTENCE:
+                yield "%s: a sentence of %d words, of at most %d: %.60s" % (page, words_in(sentence), MOST_IN_A_SENTENCE, sentence)
 
 
 def files_of_tests():
@@ -213,6 +240,9 @@ class Pages(kit.Test):
             if line.startswith("|") and len(line) > MOST_IN_A_ROW
         )
 
+    def test_pages_for_users_can_be_read_once(self):
+        self.assert_none(it for page in PAGES_FOR_USERS for it in long_texts(page))
+
     def test_counts(self):
         dialogues = len(found("crates/dialogues/data/*.dialogue"))
         said = re.findall(r"(\d+) files of dialogues", text_of("docs/TESTED.md"))
@@ -223,7 +253,7 @@ class Pages(kit.Test):
         self.assert_none(impossible_edits())
 
     def test_what_is_written_from_the_tables_of_options_is_up_to_date(self):
-        """The manual and the usages of PROFILE; and the manual leaves out no option and no fault."""
+        """The manual and the usages of COMMANDS; and the manual leaves out no option and no fault."""
         script = os.path.join(kit.TREE, "tools/write_manual.py")
         done = subprocess.run([sys.executable, script, "--check"], stdout=subprocess.PIPE, stderr=subprocess.PIPE, check=False)
         self.assertEqual((done.returncode, done.stderr.decode()), (0, ""))

@@ -1,4 +1,4 @@
-"""What PROFILE and README say of the program: the tables of faults and keys, the examples of refused configurations and of faults that
+"""What the pages of the profile and README say of the program: the tables of faults and keys, the examples of refused configurations and of faults that
 are explained, and the dialogue of two clients."""
 
 import os
@@ -19,10 +19,6 @@ def text_of(path):
         return file.read()
 
 
-def profile():
-    return text_of("docs/PROFILE.md")
-
-
 def with_last_capacity(value):
     """The island's configuration with another capacity of its third station."""
     head, _, tail = ISLAND.rpartition("256")
@@ -39,7 +35,7 @@ def faults_of_sources():
 
 def faults_of_tables():
     """The numbers and names in the first column of the page's tables, where a cell may have several."""
-    cells = re.findall(r"^\| ([^|]*) \|", profile(), re.M)
+    cells = re.findall(r"^\| ([^|]*) \|", kit.profile(), re.M)
     return {(int(number), name) for cell in cells for number, name in re.findall(r"\b(\d+) ([A-Z][a-z]\w*)", cell)}
 
 
@@ -55,7 +51,7 @@ def keys_of_sources():
 
 
 def keys_of_page():
-    table = profile().split("| Key | Kind | What is allowed | If it is missing |")[1].split("\n\n")[0]
+    table = kit.profile().split("| Key | Kind | What is allowed | If it is missing |")[1].split("\n\n")[0]
     return re.findall(r"^\| `(\w+)`[^|]* \| ([^|]*) \| ([^|]*) \| ([^|]*) \|$", table, re.M)
 
 
@@ -64,7 +60,7 @@ def keys_of_page():
 
 def examples_of_configurations():
     """The fault of each row of the table, the examples in its last column, and whether these are access lists."""
-    table = profile().split("**An invalid configuration**")[1].split("\n## ")[0]
+    table = kit.profile().split("## A configuration that is refused")[1].split("\n## ")[0]
     for number, name, outer, examples in re.findall(r"^\| (\d+) (\w+)((?:, in \d+)?) \|.*\| ([^|]*) \|$", table, re.M):
         fault = "24 Access" if outer or (number, name) == ("24", "Access") else "%s %s" % (number, name)
         for example in filter(None, examples.split("; ")):
@@ -111,7 +107,7 @@ class Tables(kit.Test):
     @kit.unreleased
     def test_usages_are_those_of_help(self):
         """Each command and each of its options stands in the usages of the page, and no other."""
-        part = re.search(r"<!-- begin usages -->\n(.*?)<!-- end usages -->", profile(), re.S).group(1)
+        part = re.search(r"<!-- begin usages -->\n(.*?)<!-- end usages -->", kit.profile(), re.S).group(1)
         usages = re.split(r"^    seedlinkd ", part, flags=re.M)
         said = {it.split(None, 1)[0]: set(re.findall(r"--([a-z-]+)", it)) for it in usages[1:] if not it.startswith("--")}
         commands = re.findall(r"^  ([a-z]+) ", self.run_program("--help").printed.partition("Commands:")[2].partition("\n\n")[0], re.M)
@@ -128,7 +124,7 @@ class Tables(kit.Test):
 
 def explained():
     """The commands of the section on faults that are explained, each with the lines that it prints; a reread has no command."""
-    section = profile().split("### Faults that are explained")[1].split("\n### ")[0]
+    section = kit.profile().split("## Faults that are explained")[1].split("\n# ")[0]
     found = []
     for block in re.findall(r"(?:^    .*\n)+", section, re.M):
         lines = [line[4:] for line in block.splitlines()]

@@ -75,7 +75,7 @@ put 644 "$parts/sysusers.conf" usr/lib/sysusers.d/seedlinkd.conf
 put 644 "$parts/completion.bash" usr/share/bash-completion/completions/seedlinkd
 put 644 "$parts/lintian-overrides" usr/share/lintian/overrides/seedlinkd
 # Pages stand in one folder there, with those that they name; what is not packed is named without a link.
-for page in CHANGELOG.md docs/PROFILE.md docs/OPERATING.md docs/STATUS.md docs/MIGRATING.md docs/DEFINITIONS.md; do
+for page in CHANGELOG.md docs/PROFILE.md docs/CONFIGURATION.md docs/COMMANDS.md docs/DIALOGUE.md docs/OPERATING.md docs/STATUS.md docs/MIGRATING.md docs/DEFINITIONS.md; do
     sed 's|](docs/|](|g; s|](\.\./examples/|](examples/|g; s|\[\([^]]*\)\](\.\./[^)]*)|\1|g' "$page" |
         put_text "usr/share/doc/seedlinkd/$(basename "$page")"
 done

@@ -1,11 +1,11 @@
 #!/usr/bin/env python3
-"""Writes what docs/seedlinkd.8 and docs/PROFILE.md say of the options, from the program's own tables.
+"""Writes what docs/seedlinkd.8 and docs/COMMANDS.md say of the options, from the program's own tables.
 
     tools/write_manual.py            writes both
     tools/write_manual.py --check    writes nothing, and fails if they differ or if the page leaves out an option or a fault
 
 The tables are crates/command_line/src/tables.rt, a row for each argument of each command. What is written stands between the lines
-'begin NAME' and 'end NAME' of each file: `synopsis` and `usage COMMAND` of the page, and `usages` of the profile.
+'begin NAME' and 'end NAME' of each file: `synopsis` and `usage COMMAND` of the page, and `usages` of the page on commands.
 What an option does is written by hand. The check wants each option in the part of the page on its command, and each fault of
 crates/protocol/src/reason.rt in the list of faults, under its number and name.
 """
@@ -16,7 +16,7 @@ import sys
 
 TOP = os.path.dirname(os.path.dirname(os.path.realpath(__file__)))
 PAGE = f"{TOP}/docs/seedlinkd.8"
-PROFILE = f"{TOP}/docs/PROFILE.md"
+COMMANDS = f"{TOP}/docs/COMMANDS.md"
 
 # What a value is called in the page, by what the program calls it; others are as they are, in small letters.
 VALUES = {"A:P": "Ar address : Ns Ar port", "N|Ns": "Ar n Ns Op Li s", "NET_STA": "Ar network Ns _ Ns Ar station"}
@@ -118,8 +118,8 @@ def page_with(page, tables):
     return page
 
 
-def profile_with(profile, tables):
-    return put(profile, "usages -->", usages(tables))
+def commands_with(page, tables):
+    return put(page, "usages -->", usages(tables))
 
 
 def left_out(page, tables):
@@ -140,7 +140,7 @@ def main():
     tables = list(commands())
     is_check = sys.argv[1:] == ["--check"]
     failures = []
-    for path, written in ((PAGE, page_with), (PROFILE, profile_with)):
+    for path, written in ((PAGE, page_with), (COMMANDS, commands_with)):
         old = read(path)
         new = written(old, tables)
         if is_check and new != old:
