@@ -198,7 +198,8 @@ class Wants(scripted.Test):
         for server, (_, wlf, ape) in zip(servers, visits):
             self.assertEqual(server.commands().decode(), "HELLO\rSTATION WLF GE\r%s\rSTATION APE GE\r%s\rEND\r" % (wlf, ape))
         if state is not None:
-            self.assertRegex(kit.text_of("state"), r"\AGE WLF 000001 \d+\nGE APE 00000A \d+\n#\n- 2\n\Z")
+            # The number of GE APE jumps, so all of the file is looked through at the next start.
+            self.assertRegex(kit.text_of("state"), r"\AGE WLF 000001 \d+\nGE APE 00000A \d+\n#\n- 0\n\Z")
 
     @kit.rows([("%d bytes" % it, it, "", LISTED) for it in (1, 7, 520, 70_000)] + [("dates", 520, "--iso", DATED)])
     def test_packets_in_pieces(self, piece, how, lines):
