@@ -1,7 +1,7 @@
 -- What the loop says that it decides.
 -- The loop is this project's own. Left out: whether anybody hears it.
 use Rattle.std.specs.Prelude.{◌≡◌, ◌≢◌, ℕ, ◌<◌, ◌≤◌, Bool, true, List, [], ◌∷◌, length, slice_index, Option, Result, Ok}
-use Rattle.std.specs.Prelude.{Err}
+use Rattle.std.specs.Prelude.{Err, flat_map, if◌then◌else◌}
 use Rattle.protocol.specs.Catalog.{Config}
 use Rattle.protocol.specs.World.{World}
 use Rattle.protocol.specs.Record.{record_reason}
@@ -12,11 +12,15 @@ use Rattle.server_core.specs.declared.arrivals.ArriveFault.TheVariants.{Exhauste
 use Rattle.ports.specs.Decisions.{Decides}
 use Rattle.ports.specs.declared.decisions.AwayReason.TheVariants.{Feeds, Memory, MaxConnections}
 use Rattle.ports.specs.declared.decisions.Decision.{Decision}
-use Rattle.ports.specs.declared.decisions.Decision.TheVariants.{LetIn, Refused, TurnedAway}
+use Rattle.ports.specs.declared.decisions.Decision.TheVariants.{Cut, LetIn, Refused, TurnedAway}
 use Rattle.ports.specs.declared.decisions.Party.TheVariants.{Client, Feed}
 use Rattle.ports.specs.declared.decisions.RecordCodes.{RecordCodes}
 use Rattle.ports.specs.declared.decisions.RecordRefusal.{RecordRefusal}
 use Rattle.ports.specs.declared.decisions.RecordRefusal.TheVariants.{Other, Unknown}
+use Rattle.server_core.specs.Reloads.{is_cut_at}
+use Rattle.server_core.specs.ServerValues.{ServerValue}
+use Rattle.event_loop.specs.declared.seat.Role.{Role}
+use Rattle.event_loop.specs.declared.seat.Role.TheVariants.{Client as ClientRole, Feed as FeedRole}
 use Rattle.event_loop.specs.declared.seat.Seat.{Seat}
 use Rattle.event_loop.specs.Hearing.{clients_in, feeds_in, is_seated}
 
@@ -46,6 +50,22 @@ codes_in r = record {
   network = slice_index r 18 ∷ slice_index r 19 ∷ [];
   station = slice_index r 8 ∷ slice_index r 9 ∷ slice_index r 10 ∷ slice_index r 11 ∷ slice_index r 12 ∷ [];
 }
+
+-- ---- clients that a new configuration cuts
+
+-- what is said of a port, by whose it is: that its client is cut, if it is
+abbrev pub cut_said : ServerValue → (port : ℕ) → Role → List (ℕ × Decision)
+cut_said server port (ClientRole k) = if is_cut_at server k then (port, Cut) ∷ [] else []
+cut_said server port (FeedRole rest) = []
+
+abbrev pub cut_of : ServerValue → Seat → List (ℕ × Decision)
+cut_of server s = cut_said server s.port s.role
+
+-- what is said of all ports, in order
+abbrev pub cuts_in : ServerValue → List Seat → List (ℕ × Decision)
+cuts_in server ss = flat_map (cut_of server) ss
+
+-- ---- records
 
 -- why a record is refused, by the fault that answers it
 abbrev pub refusal_of : ArriveFault → List ℕ → RecordRefusal

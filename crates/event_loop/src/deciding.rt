@@ -4,8 +4,11 @@ ghost use Rattle.ports.specs.Calls.{Tells};
 ghost use Rattle.ports.specs.Calls.Call.{Shut};
 ghost use Rattle.ports.specs.Decisions.{Decides};
 ghost use Rattle.ports.specs.declared.decisions.Decision.TheVariants.{Ends, TurnedAway};
+ghost use Rattle.event_loop.specs.Decided.{cut_of, cuts_in};
 
+use crate::seat::{Role, Seat};
 use ports::{AwayReason, Decision, Ending, Ports};
+use server_core::Server;
 
 /// A port that has just joined is shut, and it is said why.
 pub fn turn_away<P: Ports>(ports: &mut P, port: u64, reason: AwayReason)
@@ -25,4 +28,31 @@ pub fn end<P: Ports>(ports: &mut P, port: u64, ending: Ending)
 {
     ports.tell(port, Decision::Ends(ending));
     ports.shut(port);
+}
+
+/// It is said of a client's port that its client is cut, if it is.
+fn tell_if_cut<P: Ports>(server: &Server, ports: &mut P, seat: &Seat)
+    ensures calls { P.calls ports.new ≡ P.calls ports.old }
+    ensures failures { P.failures ports.new ≡ P.failures ports.old }
+    ensures decides { Decides (P.decided ports.old) (P.decided ports.new) (cut_of server.now seat.now) }
+{
+    match &seat.role {
+        Role::Client(client) => {
+            if server.is_cut(client) {
+                ports.tell(seat.port, Decision::Cut);
+            }
+        }
+        Role::Feed(_) => {}
+    }
+}
+
+/// It is said of each port whose client is cut, by rising number.
+pub fn tell_cut<P: Ports>(server: &Server, ports: &mut P, seats: &[Seat])
+    ensures calls { P.calls ports.new ≡ P.calls ports.old }
+    ensures failures { P.failures ports.new ≡ P.failures ports.old }
+    ensures decides { Decides (P.decided ports.old) (P.decided ports.new) (cuts_in server.now seats.now) }
+{
+    for seat in seats {
+        tell_if_cut(server, ports, seat);
+    }
 }

@@ -3,7 +3,7 @@
 //! A client whose connection is over is closed once its port may be written to: a port that answered Later is not
 //! offered anything before it is told writable again.
 ghost use Rattle.std.specs.Prelude.{◌≡◌, ◌+◌, ◌<◌, ◌≤◌, ℕ, [], List, IfOk, MatchResult, OnErr, codes, is_ok, length};
-ghost use Rattle.std.specs.Prelude.{◌≢◌, drop, false, take, true};
+ghost use Rattle.std.specs.Prelude.{◌≢◌, OnOk, drop, false, take, true};
 ghost use Rattle.std.specs.declared.option.Option.{Option};
 ghost use Rattle.protocol.specs.Catalog.{Config as ProtocolConfig, is_same_but_for_access};
 ghost use Rattle.protocol.specs.World.{World, config_by, empty_world, step};
@@ -11,6 +11,7 @@ ghost use Rattle.protocol.specs.World.Event.{Reload};
 ghost use Rattle.station_ring.specs.HeldRecords.{holdings_of};
 ghost use Rattle.server_core.specs.ServerValues.{StandsAt};
 ghost use Rattle.sl_io.specs.Counts.{IsMore};
+ghost use Rattle.event_loop.specs.Decided.{cuts_in};
 ghost use Rattle.event_loop.specs.Deeds.{Tally, refused_more};
 ghost use Rattle.event_loop.specs.Feeding.{feed_tally};
 ghost use Rattle.event_loop.specs.Going.{Whole, if_open};
@@ -20,8 +21,10 @@ ghost use Rattle.event_loop.specs.Sleeping.{AreKept, LeavesRest, NoneArrived};
 ghost use Rattle.event_loop.specs.Tables.{IsSameSeat, PassesAll, PassesSoFar};
 ghost use Rattle.event_loop.specs.Turns.{SeatPass};
 ghost use Rattle.ports.specs.Calls.{Call};
+ghost use Rattle.ports.specs.Decisions.{Decides};
 ghost use Rattle.event_loop.specs.declared.seat.Role.TheVariants.{Client as ClientRole};
 
+use crate::deciding::tell_cut;
 use crate::feeding::read_feed;
 use crate::hearing::hear;
 use crate::passes::{read_client, write_client};
@@ -222,6 +225,7 @@ impl<P: Ports> Model for Loop<P> {
       server = l.server;
       calls = P.calls l.ports;
       failures = P.failures l.ports;
+      decided = P.decided l.ports;
       seats = l.seats.all.items;
       max_clients = l.seats.max_clients;
       refused = l.refused;
@@ -236,6 +240,7 @@ impl<P: Ports + Drop> Loop<P> {
         ensures server { IfOk result (λ made. StandsAt made.server config empty_world) }
         ensures calls { IfOk result (λ made. made.calls ≡ P.calls ports) }
         ensures failures { IfOk result (λ made. made.failures ≡ P.failures ports) }
+        ensures decided { IfOk result (λ made. made.decided ≡ P.decided ports) }
         ensures seats { IfOk result (λ made. made.seats ≡ []) }
         ensures max_clients { IfOk result (λ made. made.max_clients ≡ config.max_connections) }
         ensures refused { IfOk result (λ made. made.refused ≡ 0) }
@@ -300,26 +305,31 @@ impl<P: Ports> Loop<P> {
     }
 
     /// A new configuration comes into force, as at the server: clients whose address has another view under it than at
-    /// their open are cut, and all others go on. It fails with 34 Different where it differs from the present one in
-    /// more than the lists of addresses, and then nothing changes. No port is called: what a turn hands next is of the
-    /// new lists.
+    /// their open are cut, which is said of their ports, and all others go on. It fails with 34 Different where it
+    /// differs from the present one in more than the lists of addresses, and then nothing changes. No port is called:
+    /// what a turn hands next is of the new lists.
     pub fn reload(&mut self, config: Config) -> Result<(), ReloadFault>
         ensures stands { (old : ProtocolConfig) (w : World) → StandsAt self.old.server old w →
             StandsAt self.new.server (config_by old (Reload config)) (step old w (Reload config)) }
         ensures answer { is_ok result ≡ is_same_but_for_access self.old.server.config config }
         ensures unchanged { OnErr result (self.new ≡ self.old) }
-        ensures only { self.new ≡ record self.old { server = self.new.server } }
+        ensures only { self.new ≡ record self.old { server = self.new.server; decided = self.new.decided } }
+        ensures decides { OnOk result
+            (Decides self.old.decided self.new.decided (cuts_in self.new.server self.old.seats)) }
     {
-        let _ = &self.ports;
-        let reloaded = self.server.reload(config);
+        if let Err(fault) = self.server.reload(config) {
+            return Err(fault);
+        }
         wake_if(&mut self.seats.awake, true);
-        reloaded
+        tell_cut(&self.server, &mut self.ports, self.seats.all.as_slice());
+        Ok(())
     }
 
     /// The ports.
     pub fn ports(&self) -> &P
         ensures calls { P.calls result.now ≡ self.now.calls }
         ensures failures { P.failures result.now ≡ self.now.failures }
+        ensures decided { P.decided result.now ≡ self.now.decided }
     {
         &self.ports
     }
@@ -328,6 +338,7 @@ impl<P: Ports> Loop<P> {
     pub fn into_ports(self) -> P
         ensures calls { P.calls result ≡ self.calls }
         ensures failures { P.failures result ≡ self.failures }
+        ensures decided { P.decided result ≡ self.decided }
     {
         self.ports
     }

@@ -1,13 +1,12 @@
-//! What the journal counts for the status port: who is here since when, how many bytes each was sent, how often whom it
-//! turned away and which records it refused, and how long turns took.
-ghost use Rattle.std.specs.Prelude.{◌≡◌, ◌+◌, ◌-◌, ◌^◌, None, map, min};
-ghost use Rattle.server_watch.specs.Visitors.{with_bytes};
+//! What the journal counts for the status port: how many bytes clients were sent, how often whom it turned away and
+//! which records it refused, and how long turns took.
+ghost use Rattle.std.specs.Prelude.{◌≡◌, ◌+◌, ◌-◌, ◌^◌, None, min};
 ghost use Rattle.job_serve.specs.Turning.{begun_at, with_end};
 
 use ports::{AwayReason, RecordRefusal};
 use ports_logged::{Sent, Visit};
 use protocol::reason::Reason;
-use server_watch::{PresentClient, PresentClients, Turns};
+use server_watch::Turns;
 use status_page::NamedCount;
 use std::alloc::{AllocError, Global};
 use std::cell::{Ref, RefCell};
@@ -18,8 +17,6 @@ const REASONS: usize = 64;
 /// What was counted.
 #[derive(Drop)]
 pub struct JournalCounts {
-    /// The clients that are here.
-    pub visitors: PresentClients,
     /// How many records were refused, by reason.
     pub refusals: Vec<NamedCount<'static>>,
     /// How many connections were turned away, by reason.
@@ -59,10 +56,9 @@ fn count(counts: &mut Vec<NamedCount<'static>>, name: &'static str) {
 }
 
 impl JournalCounts {
-    /// Nothing was counted; there is room for so many clients. Only memory can lack.
-    fn new(alloc: Global, clients: usize) -> Result<JournalCounts, AllocError> {
+    /// Nothing was counted. Only memory can lack.
+    fn new(alloc: Global) -> Result<JournalCounts, AllocError> {
         Ok(JournalCounts {
-            visitors: PresentClients::new(alloc, clients)?,
             refusals: Vec::with_capacity(alloc, REASONS)?,
             away: Vec::with_capacity(alloc, REASONS)?,
             sent: 0,
@@ -71,22 +67,9 @@ impl JournalCounts {
         })
     }
 
-    /// What happened of a visit, at a time in milliseconds since the server began.
-    fn note(&mut self, visit: &Visit, now: u64) {
+    /// What happened of a visit.
+    fn note(&mut self, visit: &Visit) {
         match visit {
-            Visit::Open { port, address } => self.visitors.add(PresentClient {
-                port: *port,
-                address: *address,
-                since: now,
-                bytes: 0,
-            }),
-            Visit::Close {
-                port,
-                address: _,
-                bytes: _,
-            } => {
-                let _gone = self.visitors.remove(*port);
-            }
             Visit::Away(away) => count(&mut self.away, name_of(away.reason)),
             Visit::Refused { refusal, .. } => count(&mut self.refusals, name_of_refusal(refusal)),
             _ => {}
@@ -95,14 +78,10 @@ impl JournalCounts {
 
     /// A port was written to.
     fn took(&mut self, sent: Sent)
-        ensures visitors { self.new.visitors ≡ record self.old.visitors {
-          present = map (with_bytes sent.port sent.bytes) self.old.visitors.present;
-        } }
         ensures sent { self.new.sent ≡ min (self.old.sent + sent.bytes) (2 ^ 64 - 1) }
         ensures turns { self.new.turns ≡ self.old.turns }
         ensures begun { self.new.begun ≡ self.old.begun }
     {
-        self.visitors.count(sent.port, sent.bytes);
         self.sent = self.sent.saturating_add(sent.bytes);
     }
 
@@ -142,17 +121,17 @@ pub struct SharedCounts {
 }
 
 impl SharedCounts {
-    /// Nothing was counted; there is room for so many clients. Only memory can lack.
-    pub fn new(alloc: Global, clients: usize) -> Result<SharedCounts, AllocError> {
+    /// Nothing was counted. Only memory can lack.
+    pub fn new(alloc: Global) -> Result<SharedCounts, AllocError> {
         Ok(SharedCounts {
-            counts: RefCell::new(JournalCounts::new(alloc, clients)?),
+            counts: RefCell::new(JournalCounts::new(alloc)?),
         })
     }
 
     /// What happened of a visit.
-    pub fn note(&self, visit: &Visit, now: u64) {
+    pub fn note(&self, visit: &Visit) {
         if let Ok(mut counts) = self.counts.try_borrow_mut() {
-            counts.note(visit, now);
+            counts.note(visit);
         }
     }
 

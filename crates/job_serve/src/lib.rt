@@ -4,7 +4,6 @@
 
 mod admitting;
 mod counts;
-mod cuts;
 mod descriptors;
 mod listening;
 mod numbers;

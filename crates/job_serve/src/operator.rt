@@ -81,13 +81,15 @@ pub struct Operator<'r, 'a, 'l> {
     errors: &'l SharedLines,
     /// The status port, if there is one.
     status: Option<StatusDesk<'l>>,
-    /// Whether it is told when another configuration comes into force.
+    /// Whether it is told when another configuration comes into force, and whether one did since that was told last.
     is_logged: bool,
+    has_come: bool,
     /// The text that was found last, if it is strict: another one is looked at once it is found again, since it may be
     /// one that is just being written.
     seen: Vec<u8>,
-    /// The configuration in force, and the text in force as it was read.
+    /// The configuration that the server began with: one that comes into force differs from it in access lists alone.
     in_force: Config,
+    /// The text in force as it was read.
     read: ConfigText,
     /// What the configuration that was read last differs in first, but for access lists.
     difference: Option<Difference>,
@@ -133,12 +135,12 @@ impl<'a> Operator<'_, 'a, '_> {
         self.tell(&incident);
     }
 
-    /// Another configuration comes into force: that is told, and which clients it cuts.
-    fn note_in_force(&mut self, alloc: Global, config: &Config) {
-        let cut = self.errors.cut(&self.in_force, config);
-        self.errors.tell(InForceLine { cut });
-        if let Ok(copy) = config.copy(alloc) {
-            self.in_force = copy;
+    /// If another configuration came into force since this was told last, it is told now, and how many clients it cut.
+    fn tell_in_force(&mut self) {
+        if self.has_come {
+            self.has_come = false;
+            let cut = self.errors.take_cut();
+            self.errors.tell(InForceLine { cut });
         }
     }
 
@@ -207,6 +209,7 @@ impl<'r, 'a, 'l> Operator<'r, 'a, 'l> {
             errors,
             status,
             is_logged: options.is_logged,
+            has_come: false,
             read,
             in_force,
             difference: None,
@@ -308,9 +311,7 @@ impl<'a> Operator<'_, 'a, '_> {
                 self.difference = None;
                 self.read = read;
                 self.take_config(alloc);
-                if self.is_logged {
-                    self.note_in_force(alloc, config);
-                }
+                self.has_come = self.is_logged;
             }
             Ok(difference) => self.difference = difference,
             Err(_) => self.difference = None,
@@ -383,8 +384,9 @@ impl<'a> Between for Operator<'_, 'a, '_> {
         }
     }
 
-    /// In the line `seedlinkd: clients 3, feeds 1, records 1200, refused 2`.
+    /// In the line `seedlinkd: clients 3, feeds 1, records 1200, refused 2`, after what came into force.
     fn report(&mut self, activity: Activity) {
+        self.tell_in_force();
         let mut line = ErrorLine::new();
         let _ = write!(line, "seedlinkd: {activity}");
         self.errors.write_line(&line);
@@ -405,8 +407,9 @@ impl<'a> Between for Operator<'_, 'a, '_> {
         Ok(())
     }
 
-    /// What is asked at the status port is answered. With that the turn ends.
+    /// What came into force is told, and what is asked at the status port is answered. With that the turn ends.
     fn watch<P: Ports>(&mut self, server: &Loop<P>) {
+        self.tell_in_force();
         if self.status.is_none() {
             return;
         }

@@ -80,21 +80,9 @@ fn serve_doors<'a>(
     doors: ServerDoors<'a>,
     served: Box<Served<'a>>,
 ) -> Result<(), Incident<'a>> {
-    let room = room_for_visits(&request, &served);
     let listening = listen(rt, doors)?;
-    match SharedLines::new(rt.alloc(), StandardError::open(rt), room) {
-        Ok(lines) => serve_at(rt, listening, request, served, &lines),
-        Err(_) => Err(no_memory()),
-    }
-}
-
-/// How many clients lines have room for: all, if the log tells of them.
-fn room_for_visits(request: &ServeRequest<'_>, served: &Served<'_>) -> usize {
-    if request.options.is_logged {
-        served.config.max_connections()
-    } else {
-        0
-    }
+    let lines = SharedLines::new(StandardError::open(rt));
+    serve_at(rt, listening, request, served, &lines)
 }
 
 /// Serves at ports that are listened on, with lines to standard error, and then sends what was not sent yet.
@@ -150,7 +138,7 @@ fn serve_watched<'a, 'l>(
     served: Box<Served<'a>>,
     lines: &'l SharedLines,
 ) -> Result<(), Incident<'a>> {
-    let Ok(counts) = SharedCounts::new(rt.alloc(), served.config.max_connections()) else {
+    let Ok(counts) = SharedCounts::new(rt.alloc()) else {
         return Err(no_memory());
     };
     let silent = request.options.silent;

@@ -228,7 +228,7 @@ impl<'l> StatusDesk<'l> {
             turns: counts.turns.times(),
         };
         let is_by_age = matches!(asked.request.target, Target::PageByAge);
-        self.watch.gather(now, server, &counts.visitors);
+        self.watch.gather(now, server);
         let users = self.users.as_slice();
         if let Ok(stations) = self.watch.stations(alloc, now, server, users, is_by_age) {
             let status = self.watch.status(now, server, told, stations.as_slice());

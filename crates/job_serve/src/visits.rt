@@ -3,40 +3,30 @@ ghost use Rattle.std.specs.Prelude.{[], ◌∷◌, None};
 ghost use Rattle.ports_logged.specs.Visits.{Notes, Passes};
 
 use crate::counts::SharedCounts;
-use crate::cuts::OpenClients;
 use crate::refusals::{RefusalLog, RefusedLine, RefusedText};
-use catalog::Config;
 use error_lines::{ErrorLine, ErrorLines, StandardError};
 use files::{microseconds, milliseconds};
 use ports::RecordRefusal;
 use ports_logged::{Journal, Sent, Visit};
 use std::alloc::{AllocError, Global};
-use std::cell::RefCell;
+use std::cell::{Cell, RefCell};
 use std::fmt::{self, Display, Formatter, Write};
-use std::net::Ipv4Addr;
-use std::rt::Clock;
-use std::time::Duration;
 
-/// Lines to standard error that several parts of a server write, and which clients are open of whom they tell.
+/// Lines to standard error that several parts of a server write.
 #[derive(Drop)]
 pub struct SharedLines {
     lines: RefCell<ErrorLines<StandardError>>,
-    clients: RefCell<OpenClients>,
+    /// How many clients were cut since the last line that told it.
+    cut: Cell<usize>,
 }
 
 impl SharedLines {
-    /// Lines to standard error, of which none was dropped. There is room for so many clients. It fails only for want of
-    /// memory.
-    pub fn new(
-        alloc: Global,
-        errors: StandardError,
-        clients: usize,
-    ) -> Result<SharedLines, AllocError> {
-        let clients = OpenClients::new(alloc, clients)?;
-        Ok(SharedLines {
+    /// Lines to standard error, of which none was dropped.
+    pub fn new(errors: StandardError) -> SharedLines {
+        SharedLines {
             lines: RefCell::new(ErrorLines::new(errors)),
-            clients: RefCell::new(clients),
-        })
+            cut: Cell::new(0),
+        }
     }
 
     /// Writes a line, or drops it if standard error doesn't take it at once.
@@ -51,27 +41,14 @@ impl SharedLines {
         self.write_line(&line_of(text));
     }
 
-    /// A client comes to a port, whose number is higher than those before.
-    fn open(&self, port: u64, address: Ipv4Addr) {
-        if let Ok(mut clients) = self.clients.try_borrow_mut() {
-            clients.open(port, address);
-        }
+    /// A new configuration cut one more client.
+    fn count_cut(&self) {
+        self.cut.set(self.cut.get().saturating_add(1));
     }
 
-    /// A client is gone. Whether a new configuration cut it.
-    fn close(&self, port: u64) -> bool {
-        match self.clients.try_borrow_mut() {
-            Ok(mut clients) => clients.close(port),
-            Err(_) => false,
-        }
-    }
-
-    /// Another configuration comes into force. How many clients it cuts.
-    pub fn cut(&self, old: &Config, new: &Config) -> usize {
-        match self.clients.try_borrow_mut() {
-            Ok(mut clients) => clients.cut(old, new),
-            Err(_) => 0,
-        }
+    /// How many clients were cut since this was asked last.
+    pub fn take_cut(&self) -> usize {
+        self.cut.replace(0)
     }
 }
 
@@ -85,8 +62,10 @@ pub struct VisitLines<'l> {
     lines: Option<&'l SharedLines>,
     refusals: RefusalLog,
     counts: Option<&'l SharedCounts>,
-    /// When the server began, by the system's clock.
-    began: Duration,
+    /// When the server began, in microseconds of the system's clock, and how many milliseconds had passed since as the
+    /// turn under way began.
+    began: u64,
+    now: u64,
 }
 
 impl<'l> VisitLines<'l> {
@@ -103,18 +82,9 @@ impl<'l> VisitLines<'l> {
             lines,
             refusals,
             counts,
-            began: rt.monotonic().unwrap_or(Duration::ZERO),
+            began: microseconds(rt),
+            now: 0,
         })
-    }
-
-    /// How many milliseconds have passed since the server began; 0 if the system can't tell the time.
-    fn passed(&self) -> u64 {
-        match self.rt.monotonic() {
-            Ok(now) => {
-                u64::try_from(now.saturating_sub(self.began).as_millis()).unwrap_or(u64::MAX)
-            }
-            Err(_) => 0,
-        }
     }
 }
 
@@ -158,34 +128,12 @@ impl VisitLines<'_> {
                 self.refusals.forget(*port);
                 lines.write_line(&line_of(visit));
             }
-            Visit::Open { port, address } => {
-                lines.open(*port, *address);
-                lines.tell(*visit);
-            }
-            Visit::Close {
-                port,
+            Visit::Cut {
+                port: _,
                 address: _,
-                bytes: _,
-            } => {
-                if lines.close(*port) {
-                    lines.tell(CutVisit(*visit));
-                } else {
-                    lines.tell(*visit);
-                }
-            }
+            } => lines.count_cut(),
             _ => lines.write_line(&line_of(visit)),
         }
-    }
-}
-
-/// The end of a client that a new configuration cut: `close 17 10.0.0.7 bytes 52000 cut`.
-#[derive(Clone, Copy, Drop)]
-struct CutVisit(Visit);
-
-impl Display for CutVisit {
-    fn fmt<W: Write>(&self, f: &mut Formatter<W>) -> fmt::Result {
-        let visit = &self.0;
-        write!(f, "{visit} cut")
     }
 }
 
@@ -199,7 +147,7 @@ impl Journal for VisitLines<'_> {
         ensures notes { Notes None None (visit ∷ []) }
     {
         if let Some(counts) = self.counts {
-            counts.note(&visit, self.passed());
+            counts.note(&visit);
         }
         if let Some(lines) = self.lines {
             self.write(lines, &visit);
@@ -214,12 +162,16 @@ impl Journal for VisitLines<'_> {
         }
     }
 
-    /// What the ports say first after a wait begins a turn.
-    fn heard(&mut self) {
+    /// What the ports say first after a wait begins a turn. Without a status port nobody asks for the time, and
+    /// the clock is not looked at.
+    fn heard(&mut self) -> u64 {
         if let Some(counts) = self.counts {
             if counts.is_waiting() {
-                counts.begin_turn(microseconds(self.rt));
+                let now = microseconds(self.rt);
+                counts.begin_turn(now);
+                self.now = now.saturating_sub(self.began) / 1_000;
             }
         }
+        self.now
     }
 }

@@ -74,4 +74,7 @@ pub enum Decision {
     Ends(Ending),
     /// A record of 512 bytes that it gave is refused.
     Refused(RecordRefusal),
+    /// Its client is cut: a new configuration shows its address something else than the client sees. The port is shut
+    /// once it took what waits.
+    Cut,
 }

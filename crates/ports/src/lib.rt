@@ -15,9 +15,11 @@ ghost use Rattle.ports.specs.declared.decisions.Decision.{Decision as DecisionVa
 
 mod answers;
 mod decisions;
+mod present;
 
 pub use answers::{Got, Happening, PortFault, Put};
 pub use decisions::{AwayReason, Decision, Ending, Party, RecordCodes, RecordRefusal};
+pub use present::PresentClient;
 
 /// Where clients and feeds join, each at a port of its own number. No port joins twice. The count of failures is a
 /// number below 2^64 that goes on at 0 after 2^64 - 1: a call fails only with one failure more.
@@ -91,4 +93,9 @@ pub trait Ports {
         ensures calls { calls self.new ≡ calls self.old }
         ensures failures { failures self.new ≡ failures self.old }
         ensures decides { Decides (decided self.old) (decided self.new) ((port, decision) ∷ []) };
+
+    /// The client at a port, if one is there and the ports follow who is. Those that follow nobody know none.
+    fn present(&self, _port: u64) -> Option<PresentClient> {
+        None
+    }
 }

@@ -1,9 +1,8 @@
 -- Who is connected.
 -- Ports are this project's own.
-use Rattle.std.specs.Prelude.{◌≡◌, ℕ, ◌+◌, ◌-◌, ◌/◌, ◌^◌, ◌<◌, ◌≤◌, ◌==◌, ◌&&◌, nat_lt, not, Bool, true, if◌then◌else◌}
-use Rattle.std.specs.Prelude.{List, [], ◌∷◌, ◌++◌, length, min, slice_index_or, Option, Some, None}
+use Rattle.std.specs.Prelude.{◌≡◌, ℕ, ◌+◌, ◌-◌, ◌/◌, ◌^◌, ◌<◌, ◌≤◌, ◌==◌, ◌&&◌, nat_lt, not, Bool, if◌then◌else◌}
+use Rattle.std.specs.Prelude.{true, false, List, [], ◌∷◌, ◌++◌, length, min, slice_index_or, Option, Some, None}
 use Rattle.std.specs.List.{filter}
-use Rattle.std.specs.declared.net.ipv4_addr.Ipv4Addr.{Ipv4Addr}
 use Rattle.ports.specs.declared.decisions.Party.{Party}
 use Rattle.ports.specs.declared.decisions.Party.TheVariants.{Client}
 use Rattle.ports_logged.specs.declared.traffic.Traffic.{Traffic}
@@ -21,13 +20,17 @@ counted n more = min (n + more) (2 ^ 64 - 1)
 
 -- so many bytes that a port gave, so many that it took, and a record that it gave and that was refused
 abbrev pub giving : ℕ → Traffic
-giving n = record { given = n; taken = 0; refused = 0 }
+giving n = record { given = n; taken = 0; refused = 0; cuts = 0 }
 
 abbrev pub taking : ℕ → Traffic
-taking n = record { given = 0; taken = n; refused = 0 }
+taking n = record { given = 0; taken = n; refused = 0; cuts = 0 }
 
 abbrev pub refusing : Traffic
-refusing = record { given = 0; taken = 0; refused = 1 }
+refusing = record { given = 0; taken = 0; refused = 1; cuts = 0 }
+
+-- a new configuration that cut a port's client
+abbrev pub cutting : Traffic
+cutting = record { given = 0; taken = 0; refused = 0; cuts = 1 }
 
 -- so much, and so much more
 abbrev pub joined_traffic : Traffic → Traffic → Traffic
@@ -35,11 +38,12 @@ joined_traffic t more = record {
   given = counted t.given more.given;
   taken = counted t.taken more.taken;
   refused = counted t.refused more.refused;
+  cuts = counted t.cuts more.cuts;
 }
 
--- who has just come
-abbrev pub fresh : ℕ → Party → Ipv4Addr → Visitor
-fresh port party address = record { port = port; party = party; address = address; traffic = giving 0 }
+-- who has just come, at a time
+abbrev pub fresh : (port : ℕ) → Party → (since : ℕ) → Visitor
+fresh port party since = record { port = port; party = party; since = since; traffic = giving 0 }
 
 -- a port is above the last one
 abbrev pub is_next : Option ℕ → ℕ → Bool
@@ -66,6 +70,11 @@ abbrev pub records_given : Option Visitor → ℕ
 records_given None = 0
 records_given (Some v) = v.traffic.given / 512
 
+-- Somebody is there who was not cut yet.
+abbrev pub is_uncut : Option Visitor → Bool
+is_uncut None = false
+is_uncut (Some v) = v.traffic.cuts == 0
+
 -- all but those at a port
 abbrev pub without : ℕ → List Visitor → List Visitor
 without port visitors = filter (λ v. not (v.port == port)) visitors
@@ -91,7 +100,7 @@ Rise (v ∷ vs) = AreAbove v.port vs × Rise vs
 
 -- who is there where nobody is
 abbrev pub nobody : Visitor
-nobody = record { port = 0; party = Client; address = record { octets = [] }; traffic = giving 0 }
+nobody = record { port = 0; party = Client; since = 0; traffic = giving 0 }
 
 -- the port at a place
 abbrev pub port_at : List Visitor → ℕ → ℕ

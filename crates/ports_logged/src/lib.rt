@@ -60,8 +60,9 @@ pub trait Journal {
         ensures notes { noted self.new ≡ noted self.old }
         ensures passed { Passes (passed self.old) (passed self.new) (sent ∷ []) };
 
-    /// The ports have said what happened, for which they may have waited.
-    fn heard(&mut self)
+    /// The ports have said what happened, for which they may have waited. The time, in milliseconds since the server
+    /// began, if the journal looks at a clock, and else any.
+    fn heard(&mut self) -> u64
         ensures notes { noted self.new ≡ noted self.old }
         ensures passed { passed self.new ≡ passed self.old };
 }

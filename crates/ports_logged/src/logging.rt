@@ -2,7 +2,8 @@
 //!
 //! Who comes and goes is noted by ports over ports (`ports_logged`), so that `serve` without `--log` runs over the
 //! sockets themselves. They note what the loop says, and add what the loop doesn't know: the address of each
-//! connection, how many bytes went over its port, and who was turned away before a port joined (the trait `Doors`).
+//! connection, when it came and how many bytes went over its port, and who was turned away before a port joined (the
+//! trait `Doors`).
 ghost use Rattle.std.specs.Prelude.{◌≡◌, ◌<◌, ◌≤◌, List, [], ◌∷◌, ℕ, IfOk, None, find, length, map};
 ghost use Rattle.std.specs.List.{All, concat};
 ghost use Rattle.std.specs.Vec.{vec_capacity};
@@ -10,18 +11,18 @@ ghost use Rattle.sl_io.specs.Counts.{CountsFailure};
 ghost use Rattle.ports.specs.Calls.{Tells, given, taken, whole_write, IsGiven, IsTaken};
 ghost use Rattle.ports.specs.Calls.Call.{Next, Read, Write, Shut};
 ghost use Rattle.ports.specs.Decisions.{Decides};
-ghost use Rattle.ports.specs.declared.decisions.Decision.TheVariants.{LetIn};
+ghost use Rattle.ports.specs.declared.decisions.Decision.TheVariants.{Cut, LetIn};
 ghost use Rattle.ports_logged.specs.Decided.{count_of_read, counted_at, decided_notes, decided_visitors};
-ghost use Rattle.ports_logged.specs.Decided.{over_if};
-ghost use Rattle.ports_logged.specs.Visitors.{giving, is_at, taking, without};
+ghost use Rattle.ports_logged.specs.Decided.{over_if, present_of};
+ghost use Rattle.ports_logged.specs.Visitors.{cutting, giving, is_at, taking, without};
 ghost use Rattle.ports_logged.specs.Visits.{Notes, Passes};
 
 use crate::traffic::Traffic;
 use crate::visit::{Away, Sent, Visit};
-use crate::visitor::Visitor;
+use crate::visitor::{Visitor, is_uncut, present_of, records_given};
 use crate::visitors::Visitors;
 use crate::{Doors, Journal};
-use ports::{Decision, Got, Happening, Party, PortFault, Ports, Put};
+use ports::{Decision, Got, Happening, Party, PortFault, Ports, PresentClient, Put};
 use std::alloc::{AllocError, Global};
 use std::net::Ipv4Addr;
 
@@ -36,6 +37,8 @@ pub struct LoggedPorts<P, J> {
     inner: P,
     visitors: Visitors,
     journal: J,
+    /// When the ports said last what happened, by the journal's clock, in milliseconds since the server began.
+    time: u64,
 }
 
 /// Notes connections that were turned away.
@@ -55,13 +58,14 @@ fn let_in<J: Journal>(
     port: u64,
     party: Party,
     address: Ipv4Addr,
+    now: u64,
 )
-    ensures visitors { visitors.new ≡ decided_visitors port (LetIn party) address visitors.old }
+    ensures visitors { visitors.new ≡ decided_visitors port (LetIn party) now visitors.old }
     ensures notes { Notes (J.noted journal.old) (J.noted journal.new)
         (decided_notes port (LetIn party) address visitors.old) }
     ensures passed { J.passed journal.new ≡ J.passed journal.old }
 {
-    visitors.add(Visitor::new(port, party, address));
+    visitors.add(Visitor::new(port, party, now));
     journal.note(match party {
         Party::Client => Visit::Open { port, address },
         Party::Feed => Visit::Feed { port, address },
@@ -69,15 +73,29 @@ fn let_in<J: Journal>(
 }
 
 /// Whoever was at a port is gone, and it is noted what went over it.
-fn let_go<J: Journal>(visitors: &mut Visitors, journal: &mut J, port: u64)
+fn let_go<J: Journal>(visitors: &mut Visitors, journal: &mut J, port: u64, address: Ipv4Addr)
     ensures visitors { visitors.new ≡ record visitors.old { present = without port visitors.old.present } }
     ensures notes { Notes (J.noted journal.old) (J.noted journal.new)
-        (over_if (find (is_at port) visitors.old.present)) }
+        (over_if address (find (is_at port) visitors.old.present)) }
     ensures passed { J.passed journal.new ≡ J.passed journal.old }
 {
     match visitors.remove(port) {
-        Some(gone) => journal.note(gone.end()),
+        Some(gone) => journal.note(gone.end(address)),
         None => {}
+    }
+}
+
+/// A client is cut, which is noted the first time.
+fn cut<J: Journal>(visitors: &mut Visitors, journal: &mut J, port: u64, address: Ipv4Addr)
+    ensures visitors { visitors.new ≡ counted_at port cutting visitors.old }
+    ensures notes { Notes (J.noted journal.old) (J.noted journal.new)
+        (decided_notes port Cut address visitors.old) }
+    ensures passed { J.passed journal.new ≡ J.passed journal.old }
+{
+    let is_first = is_uncut(visitors.find(port));
+    visitors.count(port, Traffic::one_cut());
+    if is_first {
+        journal.note(Visit::Cut { port, address });
     }
 }
 
@@ -88,18 +106,19 @@ fn decide<J: Journal>(
     port: u64,
     decision: Decision,
     address: Ipv4Addr,
+    now: u64,
 )
-    ensures visitors { visitors.new ≡ decided_visitors port decision address visitors.old }
+    ensures visitors { visitors.new ≡ decided_visitors port decision now visitors.old }
     ensures notes { Notes (J.noted journal.old) (J.noted journal.new)
         (decided_notes port decision address visitors.old) }
     ensures passed { J.passed journal.new ≡ J.passed journal.old }
 {
     match decision {
-        Decision::LetIn(party) => let_in(visitors, journal, port, party, address),
+        Decision::LetIn(party) => let_in(visitors, journal, port, party, address, now),
         Decision::TurnedAway(reason) => journal.note(Visit::Away(Away { address, reason })),
-        Decision::Ends(_) => let_go(visitors, journal, port),
+        Decision::Ends(_) => let_go(visitors, journal, port, address),
         Decision::Refused(refusal) => {
-            let record = visitors.records(port);
+            let record = records_given(visitors.find(port));
             visitors.count(port, Traffic::refused_record());
             journal.note(Visit::Refused {
                 port,
@@ -107,6 +126,7 @@ fn decide<J: Journal>(
                 refusal,
             });
         }
+        Decision::Cut => cut(visitors, journal, port, address),
     }
 }
 
@@ -132,6 +152,7 @@ impl<P, J> LoggedPorts<P, J> {
             inner,
             visitors,
             journal,
+            time: 0,
         })
     }
 
@@ -144,6 +165,7 @@ impl<P, J> LoggedPorts<P, J> {
             inner,
             visitors: _,
             journal,
+            time: _,
         } = self;
         (inner, journal)
     }
@@ -168,7 +190,7 @@ impl<P: Doors, J: Journal> Ports for LoggedPorts<P, J> {
         ensures passed { J.passed self.new.journal ≡ J.passed self.old.journal }
     {
         let answer = self.inner.next();
-        self.journal.heard();
+        self.time = self.journal.heard();
         note_all(&mut self.journal, self.inner.turned_away());
         answer
     }
@@ -265,7 +287,7 @@ impl<P: Doors, J: Journal> Ports for LoggedPorts<P, J> {
         ensures failures { P.failures self.new.inner ≡ P.failures self.old.inner }
         ensures decides { Decides (P.decided self.old.inner) (P.decided self.new.inner) ((port, decision) ∷ []) }
         ensures visitors { self.new.visitors
-            ≡ decided_visitors port decision (P.address self.old.inner port) self.old.visitors }
+            ≡ decided_visitors port decision self.old.time self.old.visitors }
         ensures notes { Notes (J.noted self.old.journal) (J.noted self.new.journal)
             (decided_notes port decision (P.address self.old.inner port) self.old.visitors) }
         ensures passed { J.passed self.new.journal ≡ J.passed self.old.journal }
@@ -278,6 +300,14 @@ impl<P: Doors, J: Journal> Ports for LoggedPorts<P, J> {
             port,
             decision,
             address,
+            self.time,
         );
+    }
+
+    /// By the one table of who is there, and the inner ports, which know each connection's address.
+    fn present(&self, port: u64) -> Option<PresentClient>
+        ensures { result ≡ present_of (P.address self.now.inner port) (find (is_at port) self.now.visitors.present) }
+    {
+        present_of(self.visitors.find(port), self.inner.address(port))
     }
 }

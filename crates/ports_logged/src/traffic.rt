@@ -1,8 +1,8 @@
 //! What goes over a port.
 ghost use Rattle.std.specs.Prelude.{◌≡◌};
-ghost use Rattle.ports_logged.specs.Visitors.{giving, joined_traffic, refusing, taking};
+ghost use Rattle.ports_logged.specs.Visitors.{cutting, giving, joined_traffic, refusing, taking};
 
-/// What went over a port. Each count stays at 2^64 - 1.
+/// What went over a port, and how often its client was cut. Each count stays at 2^64 - 1.
 #[derive(Clone, Copy, Drop)]
 pub struct Traffic {
     /// How many bytes it gave.
@@ -11,6 +11,8 @@ pub struct Traffic {
     pub taken: u64,
     /// How many of the records that it gave were refused.
     pub refused: u64,
+    /// How many new configurations cut its client.
+    pub cuts: u64,
 }
 
 impl Traffic {
@@ -22,6 +24,7 @@ impl Traffic {
             given: count as u64,
             taken: 0,
             refused: 0,
+            cuts: 0,
         }
     }
 
@@ -33,6 +36,7 @@ impl Traffic {
             given: 0,
             taken: count as u64,
             refused: 0,
+            cuts: 0,
         }
     }
 
@@ -44,6 +48,19 @@ impl Traffic {
             given: 0,
             taken: 0,
             refused: 1,
+            cuts: 0,
+        }
+    }
+
+    /// A new configuration that cut a port's client.
+    pub fn one_cut() -> Traffic
+        ensures { result ≡ cutting }
+    {
+        Traffic {
+            given: 0,
+            taken: 0,
+            refused: 0,
+            cuts: 1,
         }
     }
 
@@ -55,6 +72,7 @@ impl Traffic {
             given: self.given.saturating_add(more.given),
             taken: self.taken.saturating_add(more.taken),
             refused: self.refused.saturating_add(more.refused),
+            cuts: self.cuts.saturating_add(more.cuts),
         }
     }
 }

@@ -33,11 +33,17 @@ pub enum Visit {
     },
     /// A client or a feed was turned away.
     Away(Away),
-    /// A client's port was shut, after it took so many bytes, at most 2^64 - 1.
+    /// A new configuration cut a client, for the first time.
+    Cut {
+        port: u64,
+        address: Ipv4Addr,
+    },
+    /// A client's port was shut, after it took so many bytes, at most 2^64 - 1; also whether the client was cut.
     Close {
         port: u64,
         address: Ipv4Addr,
         bytes: u64,
+        is_cut: bool,
     },
     /// A feed was let in.
     Feed {
@@ -112,9 +118,9 @@ fn put_refusal<W: Write>(
 }
 
 impl Display for Visit {
-    /// As `open 17 10.0.0.7`, `away 10.0.0.7 max_connections`, `close 17 10.0.0.7 bytes 52000`, `feed 3 10.0.0.2`,
-    /// `feed 3 refused 6 Length, first at record 17`, `feed 3 refused GE WLF, an unknown station, first at record 2`
-    /// and `feed 3 over 10.0.0.2 records 120 refused 2`.
+    /// As `open 17 10.0.0.7`, `away 10.0.0.7 max_connections`, `cut 17 10.0.0.7`, `close 17 10.0.0.7 bytes 52000 cut`,
+    /// `feed 3 10.0.0.2`, `feed 3 refused 6 Length, first at record 17`, `feed 3 refused GE WLF, an unknown station,
+    /// first at record 2` and `feed 3 over 10.0.0.2 records 120 refused 2`.
     fn fmt<W: Write>(&self, f: &mut Formatter<W>) -> fmt::Result {
         match self {
             Visit::Open { port, address } => write!(f, "open {port} {address}"),
@@ -122,11 +128,16 @@ impl Display for Visit {
                 let Away { address, reason } = away;
                 write!(f, "away {address} {reason}")
             }
+            Visit::Cut { port, address } => write!(f, "cut {port} {address}"),
             Visit::Close {
                 port,
                 address,
                 bytes,
-            } => write!(f, "close {port} {address} bytes {bytes}"),
+                is_cut,
+            } => {
+                let end = if *is_cut { " cut" } else { "" };
+                write!(f, "close {port} {address} bytes {bytes}{end}")
+            }
             Visit::Feed { port, address } => write!(f, "feed {port} {address}"),
             Visit::Refused {
                 port,

@@ -2,13 +2,13 @@
 //!
 //! Who is at the open ports is kept in one table, by rising number of the ports, in which one is found by halving. Its
 //! room is made at the start: `max_connections`, and 16. The records of a feed are the bytes that it gave, divided by
-//! 512.
+//! 512. The address of a connection is not kept here, since the inner ports have it as long as the port is open.
 ghost use Rattle.std.specs.Prelude.{◌≡◌, ◌≤◌, ◌<◌, [], None, IfErr, IfOk, find, map};
 ghost use Rattle.ports_logged.specs.Visitors.{IsGapFor, IsVisitorAt, Rise, is_at, is_next, with_traffic, with_visitor};
-ghost use Rattle.ports_logged.specs.Visitors.{records_given, without};
+ghost use Rattle.ports_logged.specs.Visitors.{without};
 
 use crate::traffic::Traffic;
-use crate::visitor::{RECORD, Visitor};
+use crate::visitor::Visitor;
 use std::alloc::{AllocError, Global};
 use std::marker::Model;
 
@@ -90,13 +90,13 @@ impl Visitors {
         count(self.present.as_mut_slice(), port, more);
     }
 
-    /// How many whole records a port gave, if somebody is there, and else 0.
-    pub fn records(&self, port: u64) -> u64
-        ensures { result ≡ records_given (find (is_at port) self.now.present) }
+    /// Who is at a port, if somebody is.
+    pub fn find(&self, port: u64) -> Option<Visitor>
+        ensures { result ≡ find (is_at port) self.now.present }
     {
         match place_of(self.present.as_slice(), port) {
-            Ok(at) => self.present[at].traffic.given / RECORD,
-            Err(_) => 0,
+            Ok(at) => Some(self.present[at]),
+            Err(_) => None,
         }
     }
 

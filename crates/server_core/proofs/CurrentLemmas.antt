@@ -3,7 +3,7 @@ use Rattle.std.proofs.Common.{◌≡◌, ℕ, zero, suc, ◌<◌, ◌-◌, ◌==
 use Rattle.std.proofs.Common.{if◌then◌else◌, List, [], ◌∷◌, ◌++◌, length, take, drop, get_or, slice_get, slice_set}
 use Rattle.std.proofs.Common.{Option, Some, None, refl, sym, ap, ap₂, subst, ◌∙◌, arith, eqb-true}
 use Rattle.std.specs.Net.Addr.{ipv4_bits}
-use Rattle.std.specs.Prelude.{IsSome}
+use Rattle.std.specs.Prelude.{IsSome, not, slice_index_or}
 use Rattle.std.proofs.lemmas.Bool.{eqb-false}
 use Rattle.std.proofs.lemmas.Option.{same_Some}
 use Rattle.slab.specs.Slab.{Slab, get}
@@ -25,7 +25,7 @@ use Rattle.server_core.specs.Arrivals.{IsPlaced}
 use Rattle.server_core.specs.Clients.{AreApart, AreRising, IsTable, address_in, addresses_of, number_at, sessions_of}
 use Rattle.server_core.specs.Clients.{slot_in}
 use Rattle.server_core.specs.Reloads.{AreCurrent, AreCurrentIn, AreReviewed, HasHistory, IsCurrent, IsCut, cut_session}
-use Rattle.server_core.specs.Reloads.{reviewed_session}
+use Rattle.server_core.specs.Reloads.{has_other_view, reviewed_session}
 use Rattle.server_core.specs.ServerValues.{OpenClient, SlotGoesOn, StayOpen, goes_on, open_client_of, open_client}
 use Rattle.server_core.specs.ServerValues.{taking}
 use Rattle.server_core.proofs.ArriveLemmas.{Arrives, arrival_of, place-there}
@@ -295,3 +295,29 @@ pub history-under : (g new : Config) (rings : RingsValue) → is_same_but_for_ac
     → HasHistory new rings
 history-under g new rings same was =
     record { history = was.history; holds = was.holds ∙ sym (same-holdings g new same was.history) }
+
+-- ---- who is cut
+
+there-at : {X : Type 0} (xs : List (Option X)) (k : ℕ) (x : X) → slice_index_or xs k None ≡ Some x
+    → slice_get xs k ≡ Some (Some x)
+there-at [] k x e = absurd cc
+there-at (y ∷ ys) zero x e = ap Some e
+there-at (y ∷ ys) (suc k) x e = there-at ys k x e
+
+-- One that is not open is not.
+pub cut-nobody : (config : Config) (a : Option ℕ) → has_other_view config a None ≡ false
+cut-nobody config None = refl
+cut-nobody config (Some a) = refl
+
+-- Nor is one whose connection goes on.
+pub cut-not : (config : Config) (xs : List (Option SessionValue)) (addresses : List (Option ℕ)) (k : ℕ)
+    (s : SessionValue) → AreCurrent config xs addresses → slice_index_or xs k None ≡ Some s → (s.state ≡ Ending → ⊥)
+    → has_other_view config (slice_index_or addresses k None) (slice_index_or xs k None) ≡ false
+cut-not config xs addresses k s current has goes =
+    ap (has_other_view config (slice_index_or addresses k None)) has ∙ by (slice_index_or addresses k None) refl
+  where
+    by : (a : Option ℕ) → slice_index_or addresses k None ≡ a → has_other_view config a (Some s) ≡ false
+    by None e = refl
+    by (Some a) e =
+        both (is_same_view (view_of config a) (session_view config s)) (λ y. ap not y)
+        (λ n. absurd (goes (current k a s (there-at xs k s has) (there-at addresses k a e) n).0))

@@ -216,6 +216,22 @@ address_in-less (o ∷ os) n (suc at) k apart is =
     ap (λ r. if o.number == k then Some (ipv4_bits o.address) else r)
     (address_in-less os n at k apart (tail-at o os n at is))
 
+-- The address at a number's place is the number's.
+pub address-at : (os : List Opened) (n at : ℕ) → AreRising os → IsNumberAt os n at
+    → address_in os n ≡ (let o : Opened = slice_index_or os at no_one in Some (ipv4_bits o.address))
+address-at [] n at h is = absurd (omega (arith, is.inside))
+address-at (o ∷ os) n zero h is = rw (eq-eqb o.number n is.has_number) refl
+address-at (o ∷ os) n (suc at) h is =
+    let later = tail-at o os n at is in
+    rw (is-not o.number n (lower-than-later o os n at h.0 later)) (address-at os n at h.1 later)
+
+-- A number without a slot has no address.
+pub no-address : (os : List Opened) (n : ℕ) → slot_in os n ≡ None → address_in os n ≡ None
+no-address [] n none = refl
+no-address (o ∷ os) n none =
+    both (o.number == n) (λ y. absurd (let q : Some o.slot ≡ None = rw y at none in cc))
+    (λ no. rw no (no-address os n (rw no at none)))
+
 -- ---- slots at places
 unfoldable pub slot_at : List Opened → ℕ → ℕ
 slot_at os i = let o : Opened = slice_index_or os i no_one in o.slot

@@ -25,7 +25,7 @@ use Rattle.server_core.specs.ServerValues.{AreSettled, IsSettled, OnlyGoesOn, Sl
 use Rattle.server_core.specs.ServerValues.{open_client}
 use Rattle.server_core.proofs.NumberLemmas.{below-less, below-more, none-below, rising-less, rising-more, slot_in-below}
 use Rattle.server_core.proofs.NumberLemmas.{slot_in-gone, slot_in-less, slot_in-more, slot_in-new, address_in-gone}
-use Rattle.server_core.proofs.NumberLemmas.{address_in-less, address_in-more, address_in-new}
+use Rattle.server_core.proofs.NumberLemmas.{address_in-less, address_in-more, address_in-new, no-address-below}
 
 -- ---- values of numbers, as a list
 
@@ -464,3 +464,16 @@ unfolding addresses_of
 address-there c k slot table e =
     value-inside (address_in c.opened.items) 0 c.opens k k (slot_in-below c.opens c.opened.items k slot table.below e)
     (omega arith)
+
+-- the address of a number
+pub address-is : (c : Clients) (k : ℕ) → IsTable c
+    → slice_index_or (addresses_of c) k None ≡ address_in c.opened.items k
+unfolding addresses_of
+address-is c k table = both (nat_lt k c.opens)
+    (λ inside. let lt : k < c.opens = grind (arith, nat_tests) in
+    index-of (map (address_in c.opened.items) (range_with_len 0 c.opens)) k None _
+    (value-inside (address_in c.opened.items) 0 c.opens k k lt (omega arith)))
+    (λ outside. let le : c.opens ≤ k = grind (arith, nat_tests) in
+    index-of (map (address_in c.opened.items) (range_with_len 0 c.opens)) k None _
+    (value-beyond (address_in c.opened.items) 0 c.opens k le)
+    ∙ sym (no-address-below c.opens c.opened.items k le table.below))

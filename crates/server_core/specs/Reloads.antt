@@ -1,6 +1,7 @@
 -- Sessions that a new configuration cuts.
 -- This project's own.
-use Rattle.std.specs.Prelude.{◌≡◌, ℕ, false, if◌then◌else◌, List, [], Option, Some, slice_get}
+use Rattle.std.specs.Prelude.{◌≡◌, ℕ, Bool, false, not, if◌then◌else◌, List, [], Option, Some, None, slice_get}
+use Rattle.std.specs.Prelude.{slice_index_or}
 use Rattle.slab.specs.Slab.{Slab, get}
 use Rattle.protocol.specs.Catalog.{Config, view_of, is_same_view}
 use Rattle.protocol.specs.History.{Arrival}
@@ -9,7 +10,7 @@ use Rattle.session_state.specs.declared.session.State.TheVariants.{Ending}
 use Rattle.session_state.specs.Sessions.{SessionValue, session_view}
 use Rattle.server_core.specs.declared.clients.Opened.{Opened}
 use Rattle.server_core.specs.Clients.{address_in, slot_in}
-use Rattle.server_core.specs.ServerValues.{HoldsOf}
+use Rattle.server_core.specs.ServerValues.{HoldsOf, ServerValue}
 
 -- the session that is cut
 abbrev pub cut_session : SessionValue → SessionValue
@@ -43,6 +44,18 @@ AreCurrent config sessions addresses = (k a : ℕ) (s : SessionValue) → slice_
 abbrev pub AreCurrentIn : Config → List Opened → Slab SessionValue → Type 0
 AreCurrentIn config os slots = (k slot a : ℕ) (s : SessionValue) → slot_in os k ≡ Some slot → address_in os k ≡ Some a →
     get slots slot ≡ Some s → IsCurrent config a s
+
+-- An address has another view under the configuration than a session has. Without one of the two nothing differs.
+abbrev pub has_other_view : Config → Option ℕ → Option SessionValue → Bool
+has_other_view config (Some a) (Some s) = not (is_same_view (view_of config a) (session_view config s))
+has_other_view config (Some a) None = false
+has_other_view config None o = false
+
+-- The k-th client is cut: it is open, and its address has another view under the configuration in force than the client
+-- has had since it opened.
+abbrev pub is_cut_at : ServerValue → (k : ℕ) → Bool
+is_cut_at server k =
+    has_other_view server.config (slice_index_or server.addresses k None) (slice_index_or server.sessions k None)
 
 -- There is a history of which the rings hold what is held.
 pub record HasHistory (config : Config) (rings : RingsValue) : Type 0 where

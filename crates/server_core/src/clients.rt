@@ -9,13 +9,13 @@
 //! An open client's address stands beside its number and slot, so that its view under new access lists can be found.
 //! What `Server` says of itself has it as long as the client is open.
 ghost use Rattle.std.specs.Prelude.{◌≡◌, ◌≢◌, ◌+◌, ℕ, ◌∷◌, ◌++◌, [], IfOk, OnOk, OnErr, IfSome, Some, None, true};
-ghost use Rattle.std.specs.Prelude.{◌<◌, false, is_some, length, slice_set};
+ghost use Rattle.std.specs.Prelude.{◌<◌, false, is_some, length, option_map, slice_set};
 ghost use Rattle.std.specs.Net.Addr.{ipv4_bits};
 ghost use Rattle.slab.specs.Slab.{get, Updates};
 ghost use Rattle.protocol.specs.Catalog.{Config as ProtocolConfig};
 ghost use Rattle.station_ring.specs.HeldRecords.{RingsValue};
 ghost use Rattle.server_core.specs.Rows.{bit_of};
-ghost use Rattle.server_core.specs.Clients.{AreRising, IsNumberAt, listed, owner_in, slot_in};
+ghost use Rattle.server_core.specs.Clients.{AreRising, IsNumberAt, address_in, listed, owner_in, slot_in};
 ghost use Rattle.server_core.specs.Marks.{IsAmong};
 
 use crate::client::Client;
@@ -125,6 +125,15 @@ impl Clients {
         }
         let at = place_of(self.opened.as_slice(), number)?;
         Some(self.opened[at].slot)
+    }
+
+    /// The address from which an open client came.
+    pub fn address_of(&self, client: &Client) -> Option<Ipv4Addr>
+        requires { IsTable self.now }
+        ensures { option_map ipv4_bits result ≡ address_in self.now.opened.items client.now }
+    {
+        let at = place_of(self.opened.as_slice(), client.number())?;
+        Some(self.opened[at].address)
     }
 
     /// The open clients in the slots whose bit is set, and no others, stand in a list from now on. It fails only for

@@ -19,7 +19,7 @@ use crate::marks::Marks;
 use crate::reviewing::review_all;
 use crate::slots;
 use catalog::Config;
-use session_state::Session;
+use session_state::{Session, State};
 use sl_packet::Seq;
 use station_ring::Rings;
 use std::alloc::{AllocError, Global};
@@ -65,6 +65,7 @@ impl Server {
     ghost use Rattle.server_core.specs.ServerValues.{MayTake, StandsAt, mark_at};
     ghost use Rattle.server_core.specs.Marks.{IsAmong, IsSpared, LeavesOthers, MarksThose, OpensNext};
     ghost use Rattle.server_core.specs.Filling.{IsFilled, IsOffered};
+    ghost use Rattle.server_core.specs.Reloads.{is_cut_at};
     ghost use Rattle.server_core.specs.Refusals.{is_idle, room_of, receipt, offer_of};
     ghost use Rattle.server_core.specs.declared.client.Offer.TheVariants.{Idle};
     ghost use Rattle.server_core.specs.Arrivals.{answer_to, IsExhausted, IsPlaced};
@@ -428,6 +429,25 @@ impl Server {
         );
         self.config = config;
         Ok(())
+    }
+
+    /// Whether a client is cut: it is open, and its address has another view under the configuration in force than the
+    /// client has had since it opened. What waits for it is still handed, and then its connection is over.
+    pub fn is_cut(&self, client: &Client) -> bool
+        ensures { result ≡ is_cut_at self.now client.now }
+    {
+        let _ = &self.clients;
+        let Some(session) = self.session(client) else {
+            return false;
+        };
+        match session.state() {
+            State::Ending => {}
+            _ => return false,
+        }
+        match self.clients.address_of(client) {
+            Some(address) => !self.config.has_view(address, session.view()),
+            None => false,
+        }
     }
 
     /// The configuration in force.

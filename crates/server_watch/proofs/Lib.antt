@@ -1,4 +1,3 @@
 mod ArrivalLemmas
 mod MinuteLemmas
 mod BehindLemmas
-mod VisitorLemmas

@@ -1,4 +1,3 @@
 pub mod Minutes
 pub mod Turns
-pub mod Visitors
 pub mod Watching

@@ -2,6 +2,7 @@
 -- This project's own.
 use Rattle.std.specs.Prelude.{◌≡◌, ℕ, ◌+◌, ◌-◌, ◌/◌, ◌^◌, min, nat_lt, if◌then◌else◌, List, [], ◌∷◌}
 use Rattle.std.specs.Prelude.{Option, Some, None, option_map, slice_get}
+use Rattle.ports.specs.declared.present.PresentClient.{PresentClient}
 use Rattle.protocol.specs.Catalog.{Entry as ConfigEntry}
 use Rattle.session_state.specs.declared.choices.Entry.{Entry}
 use Rattle.station_ring.specs.HeldRecords.{RingsValue}
@@ -10,7 +11,6 @@ use Rattle.status_page.specs.declared.value.ClientStatus.{ClientStatus}
 use Rattle.status_page.specs.declared.value.StationStatus.{StationStatus}
 use Rattle.server_watch.specs.Minutes.{counted, reached}
 use Rattle.server_watch.specs.declared.arrivals.Arrivals.{Arrivals}
-use Rattle.server_watch.specs.declared.visitors.PresentClient.{PresentClient}
 
 -- what is known of a station's records once so many have come, at a time in milliseconds
 abbrev pub noted : (pushes now : ℕ) → Arrivals → Arrivals

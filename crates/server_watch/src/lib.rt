@@ -7,11 +7,9 @@ mod arrivals;
 mod behind;
 mod minutes;
 pub mod turns;
-mod visitors;
 mod watch;
 
 pub use arrivals::Arrivals;
 pub use behind::behind_of;
 pub use turns::Turns;
-pub use visitors::{PresentClient, PresentClients};
 pub use watch::{Told, Watch};

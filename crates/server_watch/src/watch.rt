@@ -9,11 +9,9 @@ ghost use Rattle.server_watch.specs.Watching.{TellsOf, all_noted, reaching, with
 
 use crate::arrivals::{Arrivals, note_all, reach_all};
 use crate::behind::behind_of;
-use crate::visitors::{PresentClient, PresentClients};
 use catalog::{Config, Station};
 use event_loop::{Loop, Role, Seat};
-use ports::Ports;
-use server_core::Server;
+use ports::{Ports, PresentClient};
 use session_state::{Session, State};
 use sl_time::Tick;
 use station_ring::{Ring, Rings};
@@ -75,26 +73,26 @@ impl Crowd {
     }
 
     /// Tells of a client, if not as many are told of already as are at most.
-    fn tell(&mut self, server: &Server, seat: &Seat, now: u64, visitors: &PresentClients) {
+    fn tell<P: Ports>(&mut self, server: &Loop<P>, seat: &Seat, now: u64) {
         let Role::Client(client) = &seat.role else {
             return;
         };
-        let Some(session) = server.session(client) else {
+        let Some(session) = server.server().session(client) else {
             return;
         };
         self.follow(session);
         if self.clients.len() < CLIENTS {
-            let visitor = visitors.find(seat.port);
+            let visitor = server.ports().present(seat.port);
             let status = client_status(server.rings(), session, seat.port, now, visitor);
             let _ = self.clients.push(status);
         }
     }
 
     /// Looks at all clients of a server.
-    fn count<P: Ports>(&mut self, now: u64, server: &Loop<P>, visitors: &PresentClients) {
+    fn count<P: Ports>(&mut self, now: u64, server: &Loop<P>) {
         self.forget();
         for seat in server.seats() {
-            self.tell(server.server(), seat, now, visitors);
+            self.tell(server, seat, now);
         }
     }
 }
@@ -140,7 +138,7 @@ impl Watch {
     }
 
     /// Looks at the clients, once a second at most.
-    pub fn gather<P: Ports>(&mut self, now: u64, server: &Loop<P>, visitors: &PresentClients)
+    pub fn gather<P: Ports>(&mut self, now: u64, server: &Loop<P>)
         ensures again { self.old.gathered ≡ Some (now / 1000) → self.new ≡ self.old }
         ensures second { self.new.gathered ≡ Some (now / 1000) }
         ensures minutes { self.old.gathered ≢ Some (now / 1000) →
@@ -152,7 +150,7 @@ impl Watch {
         }
         self.gathered = Some(second);
         reach_all(self.arrivals.as_mut_slice(), now / 60_000);
-        self.crowd.count(now, server, visitors);
+        self.crowd.count(now, server);
     }
 
     /// What is told of the station at a place, if one is there.

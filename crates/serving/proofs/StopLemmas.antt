@@ -47,7 +47,8 @@ pub not-due : {F : Type 0} (config : Config) (w : World) (v : LoopValue) (asked 
 not-due config w v asked stands = record { acts = []; rereads = (refl, refl, refl); stands = stands }
 
 module _ {F : Type 0} (config : Config) (w : World) (v v' : LoopValue)
-    (only : v' ≡ record v { server = v'.server }) (new : Config) (stands : StandsAt v.server config w)
+    (only : v' ≡ record v { server = v'.server; decided = v'.decided }) (new : Config)
+    (stands : StandsAt v.server config w)
     (goes : StandsAt v'.server (config_by config (Reload new)) (step config w (Reload new)))
     (a b : Option (List (Asked F))) where
   given : (told : List (Asked F)) → refusals config (Ok (Some new)) ≡ told →

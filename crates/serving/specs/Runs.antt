@@ -45,7 +45,7 @@ pub record Rereads {F : Type 0} (config : Config) (w : World) (v : LoopValue) (a
   pub tells : Tells asked asked' (Configuration answer ∷ refusals config answer)
   pub comes : acts ≡ reloads answer
   pub stands : StandsAt v'.server (config_then config acts) (world_then config w acts)
-  pub only : v' ≡ record v { server = v'.server }
+  pub only : v' ≡ record v { server = v'.server; decided = v'.decided }
 
 -- The same, where it is due.
 abbrev pub RereadsIf : {F : Type 0} → Bool → Config → World → LoopValue → Option (List (Asked F)) → List Act

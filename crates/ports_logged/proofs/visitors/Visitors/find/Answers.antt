@@ -1,9 +1,9 @@
 use Rattle.std.proofs.Common.{◌≡◌, ◌∙◌, Some, ap, get_or, sym}
 use Rattle.std.proofs.lemmas.List.{get_or_default}
-use Rattle.server_watch.specs.declared.visitors.PresentClient.{PresentClient}
-use Rattle.server_watch.specs.Visitors.{IsGapFor, IsVisitorAt, nobody}
-use Rattle.server_watch.proofs.VisitorLemmas.{find-absent, find-found}
-use Rattle.server_watch.proofs.visitors.PresentClients.find.Goals as goal
+use Rattle.ports_logged.specs.declared.visitor.Visitor.{Visitor}
+use Rattle.ports_logged.specs.Visitors.{IsGapFor, IsVisitorAt, nobody}
+use Rattle.ports_logged.proofs.VisitorLemmas.{find-absent, find-found}
+use Rattle.ports_logged.proofs.visitors.Visitors.find.Goals as goal
 
 pub returns-in-Ok : goal.returns-in-Ok
 returns-in-Ok c =
@@ -12,7 +12,7 @@ returns-in-Ok c =
     let is : c.index.result.now ≡ get_or vs c.in-Ok.at nobody =
     c.index.ensures ∙ get_or_default vs c.in-Ok.at c.index.result.now nobody found.inside in
     rw (← c.self.view_is)
-    (ap (λ (v : PresentClient). Some v) is ∙ sym (find-found c.args.port vs c.in-Ok.at c.self.invariant.0 found))
+    (ap (λ (v : Visitor). Some v) is ∙ sym (find-found c.args.port vs c.in-Ok.at c.self.invariant.0 found))
 
 pub returns-in-Err : goal.returns-in-Err
 returns-in-Err c =
