@@ -5,6 +5,7 @@
 mod admitting;
 mod counts;
 mod descriptors;
+mod in_force;
 mod listening;
 mod numbers;
 mod numbers_fault;

@@ -14,6 +14,7 @@ ghost use Rattle.job_serve.specs.Taken.{HasKept, IsReadFrom, begun_by};
 ghost use Rattle.job_serve.specs.Timetables.{timetable_of};
 ghost use Rattle.incidents.specs.declared.incident.Incident.{Incident};
 
+use crate::in_force::{ConfigSum, tell_changes};
 use crate::numbers::NumberFile;
 use crate::opening::{ServedFiles, copy_of};
 use crate::spare::Spare;
@@ -23,7 +24,7 @@ use crate::timetable::timetable_of;
 use crate::visits::SharedLines;
 use catalog::Config;
 use command_line::ServeOptions;
-use config_explained::{ConfigText, Difference, first_difference};
+use config_explained::{ConfigText, Difference, changes_of, first_difference};
 use error_lines::ErrorLine;
 use event_loop::Loop;
 use files::microseconds;
@@ -84,6 +85,8 @@ pub struct Operator<'r, 'a, 'l> {
     /// Whether it is told when another configuration comes into force, and whether one did since that was told last.
     is_logged: bool,
     has_come: bool,
+    /// What that one changes for whom, a line each.
+    changes: Vec<u8>,
     /// The text that was found last, if it is strict: another one is looked at once it is found again, since it may be
     /// one that is just being written.
     seen: Vec<u8>,
@@ -135,12 +138,26 @@ impl<'a> Operator<'_, 'a, '_> {
         self.tell(&incident);
     }
 
-    /// If another configuration came into force since this was told last, it is told now, and how many clients it cut.
+    /// If another configuration came into force since this was told last, it is told now: how many clients it cut, the
+    /// sum of its text, and what it changes for whom.
     fn tell_in_force(&mut self) {
-        if self.has_come {
-            self.has_come = false;
-            let cut = self.errors.take_cut();
-            self.errors.tell(InForceLine { cut });
+        if !self.has_come {
+            return;
+        }
+        self.has_come = false;
+        let cut = self.errors.take_cut();
+        self.errors.tell(InForceLine { cut });
+        self.errors.tell(ConfigSum::of(self.read.text()));
+        tell_changes(self.errors, self.changes.as_slice());
+        self.changes.clear();
+    }
+
+    /// Another configuration is to come into force, which is told then. Without memory it is not told what it changes.
+    fn note_changes(&mut self, alloc: Global, read: &ConfigText) {
+        self.has_come = true;
+        self.changes.clear();
+        if let Ok(changes) = changes_of(alloc, &self.read, read) {
+            self.changes = changes;
         }
     }
 
@@ -210,6 +227,7 @@ impl<'r, 'a, 'l> Operator<'r, 'a, 'l> {
             status,
             is_logged: options.is_logged,
             has_come: false,
+            changes: Vec::new(rt.alloc()),
             read,
             in_force,
             difference: None,
@@ -309,9 +327,11 @@ impl<'a> Operator<'_, 'a, '_> {
         match first_difference(alloc, &self.in_force, config) {
             Ok(None) => {
                 self.difference = None;
+                if self.is_logged {
+                    self.note_changes(alloc, &read);
+                }
                 self.read = read;
                 self.take_config(alloc);
-                self.has_come = self.is_logged;
             }
             Ok(difference) => self.difference = difference,
             Err(_) => self.difference = None,

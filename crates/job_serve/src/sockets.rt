@@ -2,6 +2,7 @@
 ghost use Rattle.std.specs.Prelude.{◌≡◌, ◌≤◌, ◌+◌, [], IfOk};
 
 use crate::counts::SharedCounts;
+use crate::in_force::ConfigSum;
 use crate::listening::unlistened_for;
 use crate::opening::{Served, ServerDoors, doors_of, served_by};
 use crate::operator::{ServeRequest, no_memory, serve_by};
@@ -15,6 +16,7 @@ use ports_logged::LoggedPorts;
 use ports_socket::{Admission, MioPorts};
 use status_ports::StatusPorts;
 use std::alloc::AllocError;
+use std::net::Ipv4Addr;
 
 /// What a server listens on.
 #[derive(Drop)]
@@ -22,7 +24,9 @@ struct Listening<'a> {
     clients: ServerAddress<'a>,
     feeds: ServerAddress<'a>,
     ports: MioPorts,
+    /// The status port, if there is one, and its address.
     status: Option<Box<StatusPorts>>,
+    status_address: Option<Ipv4Addr>,
 }
 
 /// Listens for clients and for feeds, of which those are taken that are admitted, and for whoever asks for the status.
@@ -37,12 +41,17 @@ fn listen<'a>(rt: &HostRuntime, doors: ServerDoors<'a>) -> Result<Listening<'a>,
         status,
     } = doors;
     let ports = ports_at(rt, clients, feeds, admission)?;
+    let status_address = match &status {
+        Some(door) => Some(door.address()),
+        None => None,
+    };
     let status = listen_for_status(rt, status)?;
     Ok(Listening {
         clients,
         feeds,
         ports,
         status,
+        status_address,
     })
 }
 
@@ -95,6 +104,7 @@ fn serve_at<'a>(
 ) -> Result<(), Incident<'a>> {
     if request.options.is_logged {
         lines.tell(start_line(&listening, &served));
+        lines.tell(ConfigSum::of(served.files.read.text()));
     }
     let Listening { ports, status, .. } = listening;
     match status {
@@ -112,6 +122,16 @@ fn start_line(listening: &Listening<'_>, served: &Served<'_>) -> StartLine {
         open: served.open,
         clients: (listening.clients.endpoint.address, for_clients),
         feeds: (listening.feeds.endpoint.address, for_feeds),
+        status: status_bound(listening),
+    }
+}
+
+/// Where the status port listens, if there is one.
+fn status_bound(listening: &Listening<'_>) -> Option<(Ipv4Addr, u16)> {
+    let address = listening.status_address?;
+    match listening.status.as_ref()?.port() {
+        Ok(port) => Some((address, port)),
+        Err(_) => None,
     }
 }
 

@@ -23,10 +23,11 @@ pub struct StartLine {
     pub open: usize,
     pub clients: (Ipv4Addr, u16),
     pub feeds: (Ipv4Addr, u16),
+    pub status: Option<(Ipv4Addr, u16)>,
 }
 
 impl Display for StartLine {
-    /// `serving 5 stations, 3 open to everybody, at 0.0.0.0:18000, feeds at 127.0.0.1:18001`.
+    /// `serving 5 stations, 3 open to everybody, at 0.0.0.0:18000, feeds at 127.0.0.1:18001, status at 127.0.0.1:18002`.
     fn fmt<W: Write>(&self, f: &mut Formatter<W>) -> fmt::Result {
         let stations = Several {
             count: self.stations,
@@ -36,7 +37,11 @@ impl Display for StartLine {
             f,
             "serving {stations}, {} open to everybody, at {}:{}, feeds at {}:{}",
             self.open, self.clients.0, self.clients.1, self.feeds.0, self.feeds.1
-        )
+        )?;
+        match self.status {
+            Some((address, port)) => write!(f, ", status at {address}:{port}"),
+            None => Ok(()),
+        }
     }
 }
 

@@ -20,6 +20,7 @@ use sl_time::Tick;
 use status_page::Target;
 use status_ports::{Asked, StatusPorts};
 use std::alloc::{AllocError, Global};
+use std::net::Ipv4Addr;
 use std::rt::Clock;
 use std::time::Duration;
 
@@ -35,6 +36,13 @@ pub struct StatusDoor<'a> {
     address: ServerAddress<'a>,
     list: Option<AccessList>,
     name: Vec<u8>,
+}
+
+impl StatusDoor<'_> {
+    /// The address at which it is to be.
+    pub fn address(&self) -> Ipv4Addr {
+        self.address.endpoint.address
+    }
 }
 
 /// From where a status port may be asked, by the list that a word spells; this machine alone without one.
