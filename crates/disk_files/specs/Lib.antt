@@ -1,1 +1,2 @@
+pub mod NewFiles
 pub mod Opened

@@ -3,6 +3,7 @@ ghost use Rattle.std.specs.Prelude.{◌≡◌, ◌<◌, IfOk, None, Some, length
 ghost use Rattle.disk_files.specs.Opened.{name_at};
 
 use crate::folders::{folder_of, make_folders, sync_folder};
+use crate::new_files::NewFiles;
 use crate::open_file::{OpenFile, RECORD, identity_of};
 use crate::open_files::{NamedFile, OpenFiles};
 use continued_files::{FolderFault, RecordFiles};
@@ -11,6 +12,8 @@ use std::fs::{self, File, Metadata, OpenOptions};
 use std::io::{self, ErrorKind};
 use std::num::NonZeroUsize;
 use std::rt::Clock;
+use std::thread;
+use std::time::Duration;
 
 /// After how many milliseconds a file is closed to which nothing was added.
 const IDLE: u64 = 60_000;
@@ -52,6 +55,9 @@ pub struct DiskFiles<'a> {
     lost: Option<FileFailure>,
     /// The path of a file whose torn end was put aside, until it is told.
     torn: Option<String>,
+    /// How many files were made within the last minute, and whether as many as may be, until that is told.
+    made: NewFiles,
+    is_crowded: bool,
     failure: Option<FileFailure>,
 }
 
@@ -127,17 +133,20 @@ impl<'a> DiskFiles<'a> {
         most: NonZeroUsize,
         lasts: bool,
     ) -> DiskFiles<'a> {
+        let now = milliseconds(rt);
         DiskFiles {
             rt,
             alloc,
             place,
             opened: OpenFiles::new(alloc, most),
             piece: 0,
-            now: milliseconds(rt),
+            now,
             lasts,
             is_lost: false,
             lost: None,
             torn: None,
+            made: NewFiles::new(now),
+            is_crowded: false,
             failure: None,
         }
     }
@@ -156,6 +165,24 @@ impl<'a> DiskFiles<'a> {
     /// The path of a file whose torn end was put aside, once.
     pub fn take_torn(&mut self) -> Option<String> {
         self.torn.take()
+    }
+
+    /// Whether as many files were made within a minute as may be, once. The next one waits until the minute is over.
+    pub fn take_crowded(&mut self) -> bool {
+        let is_crowded = self.is_crowded;
+        self.is_crowded = false;
+        is_crowded
+    }
+
+    /// One file more is to be made: waits until it may be.
+    fn await_turn(&mut self) {
+        if let Some(wait) = self.made.make(milliseconds(self.rt)) {
+            thread::sleep(self.rt, Duration::from_millis(wait));
+            self.made.make(milliseconds(self.rt));
+        }
+        if self.made.is_full(milliseconds(self.rt)) {
+            self.is_crowded = true;
+        }
     }
 
     /// The path of a file.
@@ -242,6 +269,9 @@ impl<'a> DiskFiles<'a> {
     fn open_new(&mut self, name: &str) -> io::Result<()> {
         let path = self.path_of(name)?;
         let is_new = plain_at(self.rt, path.as_str())?.is_none();
+        if is_new {
+            self.await_turn();
+        }
         let file = self.open_at(path.as_str())?;
         if is_new && self.lasts {
             sync_folder(self.rt, folder_of(path.as_str()).unwrap_or("."));

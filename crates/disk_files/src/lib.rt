@@ -3,6 +3,7 @@
 
 mod disk_files;
 mod folders;
+mod new_files;
 mod open_file;
 mod open_files;
 mod output;
