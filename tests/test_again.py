@@ -146,3 +146,45 @@ class Again(kit.Test):
         kit.write("state", "GE WLF 000F9F -\n" + lengths)
         self.fetch(self.server_of(16000), "GE_WLF", *into)
         self.assert_once(path, 16000)
+
+    def test_a_return_of_one_station(self):
+        """The files of the others are not looked through: the state goes on counting their records."""
+        both = CONFIG + CONFIG.partition("\n")[2].replace("WLF", "APE")
+        server = self.serve(both)
+        server.feed(*map(record, range(10)), *(record(it, "APE") for it in range(5)))
+        self.fetch(server, "GE_WLF", "GE_APE", "--archive", "archive")
+        other = "%s 5\n" % PATH.replace("WLF", "APE")
+        self.assertIn(other, kit.text_of("state"))
+        server.end()
+        server = self.keep(server.again())
+        server.feed(*map(record, range(5, 13)))
+        self.fetch(server, "GE_WLF", "GE_APE", "--archive", "archive")
+        self.assert_once(DAY, 13)
+        self.assertIn(other, kit.text_of("state"))
+
+    def test_a_station_whose_jumps_are_not_seen(self):
+        """One that is asked for by patterns returns with another one."""
+        both = CONFIG + CONFIG.partition("\n")[2].replace("WLF", "APE")
+        wants = ["GE_WLF", "GE_APE:BHZ", "--archive", "archive"]
+        fed = [record(it) for it in range(10)] + [record(it, "APE") for it in range(10)]
+        server = self.serve(both)
+        server.feed(*fed)
+        self.fetch(server, *wants)
+        ahead = self.serve(both.replace("16384", '16384\nfirst = "1388"'))
+        ahead.feed(*fed, record(10), record(10, "APE"))
+        self.fetch(ahead, *wants)
+        self.assert_once(DAY, 11)
+        self.assert_once(DAY.replace("WLF", "APE"), 11)
+
+    @kit.slow
+    @kit.limit(240)
+    @kit.rows([("%s, %d" % (it[0], count),) + it[1:] + (count,) for it in INTO for count in (65535, 65536)])
+    def test_what_never_comes_again(self, into, path, name, count):
+        """A ring holds 65,536 records: once as many were added, a state counts what was there before."""
+        self.fetch(self.server_of(10), "GE_WLF", *into)
+        server = self.serve(CONFIG.replace("16384", "65536") + 'first = "1388"\n')
+        server.feed(*map(record, range(10, 10 + count)))
+        ended = self.reader(server, "GE_WLF", "--quiet", *into, "--fetch", "--state", "state").await_end(180)
+        self.assertEqual(ended.status, 0, ended.all())
+        self.assertIn("%s %d\n" % (name, 10 + count if count == 65536 else 0), kit.text_of("state"))
+        self.assertEqual(os.path.getsize(path), 512 * (10 + count))

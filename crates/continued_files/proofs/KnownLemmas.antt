@@ -18,14 +18,14 @@ use Rattle.std.specs.Ordering.{is_eq, nat_cmp}
 use Rattle.std.specs.String.{string_bytes}
 use Rattle.std.specs.BTreeMap.{is_at}
 use Rattle.continued_files.specs.Indexes.{IndexValue, Indexes}
-use Rattle.continued_files.specs.Known.{EndsTail, IsCounted, IsGivenUp, IsIndexed, KeepsIndexes, KnowsOthers}
-use Rattle.continued_files.specs.Known.{KeepsTails, RenewsTails, Settles, kept_by, length_of, length_told, tail_before}
+use Rattle.continued_files.specs.Known.{EndsTail, GivesUp, GivesUpIf, GivesUpOf, IsCounted, IsIndexed, KeepsIndexes}
+use Rattle.continued_files.specs.Known.{KeepsTails, KnowsOthers, Settles, kept_by, length_of, length_told, tail_before}
 use Rattle.continued_files.specs.Known.Settles.{Ends, Stays}
 use Rattle.continued_files.specs.Lengths.{LengthValue}
 use Rattle.continued_files.specs.Tails.{HasNone, IsLeft, TailValue, all_from, first_of, kept_length, tail_of}
-use Rattle.continued_files.specs.declared.continued.Unnamed.{Unnamed}
-use Rattle.continued_files.specs.declared.continued.Unnamed.TheVariants.{Tail}
-use Rattle.continued_files.specs.declared.continued.Known.{Known}
+use Rattle.continued_files.specs.declared.known.Unnamed.{Unnamed}
+use Rattle.continued_files.specs.declared.known.Unnamed.TheVariants.{Tail}
+use Rattle.continued_files.specs.declared.known.Known.{Known}
 use Rattle.continued_files.proofs.TailLemmas.{all-left, true-false}
 
 pub same-text : (a b : List ℕ) → (a ≡ b) ⊎ (a ≢ b)
@@ -44,8 +44,8 @@ same-true a b same = (bytes_eq-Decides a b).1 same
 -- ---- a tail that is over
 
 settles-left : (old new : Option Known) (kept count place : ℕ) → Settles old new
-    → IsLeft (tail_before old kept count) place → IsLeft (tail_before new kept count) place ⊎ IsGivenUp old
-settles-left old new kept count place (Stays known) left = inl left
+    → IsLeft (tail_before old kept count) place → IsLeft (tail_before new kept count) place
+settles-left old new kept count place (Stays known) left = left
 settles-left old new kept count place (Ends k k' e) left =
     elim (cases_lt count k.count) [
       | inl low ↦
@@ -53,20 +53,18 @@ settles-left old new kept count place (Ends k k' e) left =
           ap (λ b. cond b (tail_of k.count count) k.tail.tail) (lt-ltb count k.count low) in
           let is : tail_before (Some k') kept count ≡ tail_of k'.count count =
           ap (λ b. cond b (tail_of k'.count count) k'.tail.tail)
-          (lt-ltb count k'.count (subst (λ n. count < n) (sym e.count) low)) in
-          let same : tail_of k.count count ≡ tail_of k'.count count = ap (λ n. tail_of n count) (sym e.count) in
-          inl (subst (λ (t : TailValue). IsLeft t place) (was ∙ same ∙ sym is) left)
+          (lt-ltb count k'.count (subst (λ n. count < n) (sym e.given.count) low)) in
+          let same : tail_of k.count count ≡ tail_of k'.count count = ap (λ n. tail_of n count) (sym e.given.count) in
+          subst (λ (t : TailValue). IsLeft t place) (was ∙ same ∙ sym is) left
       | inr over ↦
           let was : tail_before (Some k) kept count ≡ k.tail.tail =
           ap (λ b. cond b (tail_of k.count count) k.tail.tail) (le-ltb count k.count over) in
-          let at = subst (λ (t : TailValue). IsLeft t place) was left in
-          elim e.over [ inl none ↦ absurd (none place at) | inr given ↦ inr given ]
+          absurd (e.none place (subst (λ (t : TailValue). IsLeft t place) was left))
     ]
 
-settles-index : (old new : Option Known) (rs : List (List ℕ)) → Settles old new → IsIndexed old rs → IsCounted old rs
-    → IsIndexed new rs × IsCounted new rs
-settles-index old new rs (Stays known) index counted = (index, counted)
-settles-index old new rs (Ends k k' e) index counted = (
+given-index : (k k' : Known) (rs : List (List ℕ)) → GivesUp k k' → IsCounted (Some k) rs
+    → IsIndexed (Some k') rs × IsCounted (Some k') rs
+given-index k k' rs e counted = (
   λ low. record {
     end = subst (λ (t : TailValue). t.from + length t.left ≤ length rs) (sym e.tail) (omega (arith, counted));
     entries = λ place from below.
@@ -77,19 +75,24 @@ settles-index old new rs (Ends k k' e) index counted = (
   subst (λ n. n ≤ length rs) (sym e.count) counted,
 )
 
+settles-index : (old new : Option Known) (rs : List (List ℕ)) → Settles old new → IsIndexed old rs → IsCounted old rs
+    → IsIndexed new rs × IsCounted new rs
+settles-index old new rs (Stays known) index counted = (index, counted)
+settles-index old new rs (Ends k k' e) index counted = given-index k k' rs e.given counted
+
 pub settles-same : (old new : Option Known) → new ≡ old → Settles old new
 settles-same old new same = subst (λ (k : Option Known). Settles old k) (sym same) (Stays old)
 
 pub settles-tails : {Y : Type 0} (name : List ℕ) (old new : BTreeMap (String Y) Known) (kept : List ℕ → ℕ → ℕ)
-    → Settles (get_by_text old name) (get_by_text new name) → KnowsOthers name old new → RenewsTails old kept new kept
+    → Settles (get_by_text old name) (get_by_text new name) → KnowsOthers name old new → KeepsTails old kept new kept
 settles-tails name old new kept here others = λ other count place low left.
     elim (same-text other name) [
       | inl same ↦
           settles-left (get_by_text old other) (get_by_text new other) (kept other count) count place
           (subst (λ n. Settles (get_by_text old n) (get_by_text new n)) (sym same) here) left
       | inr differs ↦
-          inl (subst (λ (k : Option Known). IsLeft (tail_before k (kept other count) count) place)
-          (sym (others other differs)) left)
+          subst (λ (k : Option Known). IsLeft (tail_before k (kept other count) count) place)
+          (sym (others other differs)) left
     ]
 
 pub settles-indexes : {Y : Type 0} (name : List ℕ) (old new : BTreeMap (String Y) Known)
@@ -102,6 +105,22 @@ settles-indexes name old new here others = λ other rs index counted.
       | inr differs ↦
           subst (λ (k : Option Known). IsIndexed k rs × IsCounted k rs) (sym (others other differs)) (index, counted)
     ]
+
+-- ---- what is given up
+
+pub gives-same : (old new : Option Known) → GivesUpIf false old new → new ≡ old
+gives-same None new is = is
+gives-same (Some k) new is = is
+
+pub gives-index : (b : Bool) (old new : Option Known) (rs : List (List ℕ)) → GivesUpIf b old new → IsIndexed old rs
+    → IsCounted old rs → IsIndexed new rs × IsCounted new rs
+gives-index b None new rs is index counted =
+    subst (λ (k : Option Known). IsIndexed k rs × IsCounted k rs) (sym is) (tt, tt)
+gives-index false (Some k) new rs is index counted =
+    subst (λ (n : Option Known). IsIndexed n rs × IsCounted n rs) (sym is) (index, counted)
+gives-index true (Some k) new rs given index counted =
+    subst (λ (n : Option Known). IsIndexed n rs × IsCounted n rs) (sym given.1)
+    (given-index k given.0 rs given.2 counted)
 
 -- ---- lengths in a list
 
@@ -286,7 +305,7 @@ named-passed known named ls at e low item some h = record {
 
 -- ---- a file is forgotten
 
-first-zero : (count : ℕ) → first_of 0 count ≡ 0
+pub first-zero : (count : ℕ) → first_of 0 count ≡ 0
 first-zero count = grind (arith, nat_tests)
 
 module _ {Y : Type 0} where

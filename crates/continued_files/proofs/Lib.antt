@@ -3,3 +3,4 @@ mod MemoryLemmas
 pub mod TailLemmas
 mod KnownLemmas
 mod StepLemmas
+mod NamesLemmas

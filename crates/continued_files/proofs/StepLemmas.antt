@@ -1,19 +1,23 @@
 -- Each call of files in which readers go on is a step of each file.
 use Rattle.std.proofs.Common.{◌≡◌, ◌≢◌, ◌∙◌, ◌+◌, ◌<◌, ◌≤◌, ◌++◌, ◌∷◌, [], ℕ, List, None, Option, Some, inl, inr}
-use Rattle.std.proofs.Common.{ap, arith, cond, length, length-append, refl, subst, sym}
+use Rattle.std.proofs.Common.{Bool, ap, arith, cond, false, length, length-append, refl, subst, sym, true}
 use Rattle.std.specs.Prelude.{◌⊎◌}
-use Rattle.std.proofs.lemmas.Bool.{le-ltb}
+use Rattle.std.proofs.lemmas.Bool.{cases_Bool, le-ltb}
 use Rattle.continued_files.specs.Files.{MakesSafe, Tells, TellsOthers, TellsSame}
 use Rattle.continued_files.specs.Indexes.{Indexes}
-use Rattle.continued_files.specs.Known.{IsCounted, IsGivenUp, IsIndexed, Knows, kept_by, tail_before}
+use Rattle.continued_files.specs.Known.{GivesUpIf, IsCounted, IsIndexed, Knows, kept_by, tail_before}
 use Rattle.continued_files.specs.Places.{record_at}
 use Rattle.continued_files.specs.Runs.{AreDistinct, IsOf, Moment, Numbers, Series, after_record, after_renewal}
 use Rattle.continued_files.specs.Runs.{after_sync}
 use Rattle.continued_files.specs.Runs.Step.{Forgets, Hands}
-use Rattle.continued_files.specs.Steps.{ComesNoMore, FilesValue, HandsStep, IsAt, MayCome, SyncsStep, tail_at}
-use Rattle.continued_files.specs.Tails.{IsLeft, Offers, TailValue, first_of, tail_of}
+use Rattle.continued_files.specs.Steps.{ComesNoMore, FilesValue, GivesUpStep, HandsStep, IsAt, MayCome, ReturnsStep}
+use Rattle.continued_files.specs.Steps.{SyncsStep, tail_at}
+use Rattle.continued_files.specs.Tails.{IsLeft, Offers, TailValue, all_from, first_of, tail_of}
 use Rattle.continued_files.specs.Tails.Offers.{Adds, Passes}
-use Rattle.continued_files.specs.declared.continued.Known.{Known}
+use Rattle.continued_files.specs.declared.known.Known.{Known}
+use Rattle.continued_files.specs.declared.known.Unnamed.{Unnamed}
+use Rattle.continued_files.specs.declared.known.Unnamed.TheVariants.{Tail}
+use Rattle.continued_files.proofs.KnownLemmas.{first-zero, gives-index, gives-same}
 use Rattle.continued_files.proofs.TailLemmas.{all-end, left-end}
 
 -- ---- what is known of a file
@@ -113,12 +117,12 @@ pub record Renewed (old new : FilesValue) : Type 0 where
   pub records : TellsSame old.records new.records
   pub safe : MakesSafe new.records new.safe
   pub left : (name : List ℕ) (count place : ℕ) → place < count → IsLeft (tail_at old name count) place
-      → IsLeft (tail_at new name count) place ⊎ IsGivenUp (old.known name)
+      → IsLeft (tail_at new name count) place
   pub indexed : (name : List ℕ) (rs : List (List ℕ)) → IsIndexed (old.known name) rs → IsCounted (old.known name) rs
       → IsIndexed (new.known name) rs × IsCounted (new.known name) rs
 
 pub syncs : (old new : FilesValue) → Renewed old new → SyncsStep old new
-syncs old new h = λ s m name distinct at gone.
+syncs old new h = λ s m name distinct at.
     let index = h.indexed name m.file at.indexed at.counted in
     let told = h.records name ∙ at.file in
     let tail = tail_at new name (length m.file) in (
@@ -129,10 +133,7 @@ syncs old new h = λ s m name distinct at gone.
                 let was = subst (λ (t : TailValue). IsLeft t place) (sym at.tail) left in
                 let low = tail-within (old.known name) (kept_by (old.named name) old.unnamed (length m.file)) m.file
                 place at.indexed at.counted was in
-                elim (h.left name (length m.file) place low was) [
-                  | inl stays ↦ inl stays
-                  | inr given ↦ inr (λ n here may. gone given place n left here may)
-                ];
+                inl (h.left name (length m.file) place low was);
             end = λ place left.
                 tail-within (new.known name) (kept_by (new.named name) new.unnamed (length m.file)) m.file place
                 index.0 index.1 left;
@@ -146,3 +147,100 @@ syncs old new h = λ s m name distinct at gone.
         tail = refl;
       },
     )
+
+-- ---- what is left is given up
+
+-- what is told after it
+pub record Given (old new : FilesValue) (of : List ℕ → Bool) : Type 0 where
+  pub records : TellsSame old.records new.records
+  pub safe : TellsSame old.safe new.safe
+  pub known : (name : List ℕ) → GivesUpIf (of name) (old.known name) (new.known name)
+  pub named : (name : List ℕ) → new.named name ≡ old.named name
+  pub unnamed : new.unnamed ≡ old.unnamed
+
+given-left : (old new : FilesValue) (of : List ℕ → Bool) → Given old new of → (s : Series) (m : Moment)
+    (name : List ℕ) → IsAt old name m → (of name ≡ true → ComesNoMore s m) → (place : ℕ) → IsLeft m.tail place
+    → IsLeft (tail_at new name (length m.file)) place
+    ⊎ ((n : ℕ) → record_at m.file place ≡ s n → IsOf m.comes n → ⊥)
+given-left old new of h s m name at gone place left =
+    elim (cases_Bool (of name)) [
+      | inl is ↦ inr (λ n here may. gone is place n left here may)
+      | inr not ↦
+          let same : new.known name ≡ old.known name =
+          gives-same (old.known name) (new.known name)
+          (subst (λ b. GivesUpIf b (old.known name) (new.known name)) not (h.known name)) in
+          let tail : tail_at new name (length m.file) ≡ m.tail =
+          ap (λ (k : Option Known). tail_before k (kept_by (new.named name) new.unnamed (length m.file))
+          (length m.file)) same
+          ∙ ap (λ (k : Option ℕ). tail_before (old.known name) (kept_by k new.unnamed (length m.file))
+          (length m.file)) (h.named name)
+          ∙ ap (λ u. tail_before (old.known name) (kept_by (old.named name) u (length m.file)) (length m.file))
+          h.unnamed ∙ at.tail in
+          inl (subst (λ (t : TailValue). IsLeft t place) (sym tail) left)
+    ]
+
+pub gives-up : (old new : FilesValue) (of : List ℕ → Bool) → Given old new of → GivesUpStep old new of
+gives-up old new of h = λ s m name distinct at gone.
+    let index = gives-index (of name) (old.known name) (new.known name) m.file (h.known name) at.indexed at.counted in
+    let tail = tail_at new name (length m.file) in (
+      tail,
+      Forgets tail
+          (record {
+            more = given-left old new of h s m name at gone;
+            end = λ place left.
+                tail-within (new.known name) (kept_by (new.named name) new.unnamed (length m.file)) m.file place
+                index.0 index.1 left;
+            kept = inl distinct;
+          }),
+      record {
+        file = h.records name ∙ at.file;
+        synced = h.safe name ∙ at.synced;
+        indexed = index.0;
+        counted = index.1;
+        tail = refl;
+      },
+    )
+
+-- ---- numbers go back
+
+-- what is told after it
+pub record Returned (old new : FilesValue) (of : List ℕ → Bool) : Type 0 where
+  pub records : TellsSame old.records new.records
+  pub safe : TellsSame old.safe new.safe
+  pub unknown : (name : List ℕ) → of name ≡ true → new.known name ≡ None
+  pub nameless : (name : List ℕ) → of name ≡ true → new.named name ≡ None
+  pub known : (name : List ℕ) → of name ≡ false → new.known name ≡ old.known name
+  pub named : (name : List ℕ) → of name ≡ false → new.named name ≡ old.named name
+  pub unnamed : new.unnamed ≡ Tail
+
+pub all-tail : (known : Option Known) (named : Option ℕ) (u : Unnamed) (count : ℕ) → known ≡ None → named ≡ None
+    → u ≡ Tail → tail_before known (kept_by named u count) count ≡ all_from 0 count
+all-tail known named u count unknown nameless tail =
+    ap (λ (k : Option Known). tail_before k (kept_by named u count) count) unknown
+    ∙ ap (λ (n : Option ℕ). tail_of (kept_by n u count) count) nameless
+    ∙ ap (λ (v : Unnamed). tail_of (kept_by None v count) count) tail
+    ∙ ap (λ n. all_from n count) (first-zero count)
+
+pub returns : (old new : FilesValue) (of : List ℕ → Bool) → Returned old new of → ReturnsStep old new of
+returns old new of h = record {
+  here = λ m name comes is at. record {
+    file = h.records name ∙ at.file;
+    synced = h.safe name ∙ at.synced;
+    indexed = subst (λ (k : Option Known). IsIndexed k m.file) (sym (h.unknown name is)) tt;
+    counted = subst (λ (k : Option Known). IsCounted k m.file) (sym (h.unknown name is)) tt;
+    tail = all-tail (new.known name) (new.named name) new.unnamed (length m.file) (h.unknown name is)
+        (h.nameless name is) h.unnamed;
+  };
+  others = λ was m name not at. record {
+    file = h.records name ∙ at.file;
+    synced = h.safe name ∙ at.synced;
+    indexed = subst (λ (k : Option Known). IsIndexed k m.file) (sym (h.known name not)) at.indexed;
+    counted = subst (λ (k : Option Known). IsCounted k m.file) (sym (h.known name not)) at.counted;
+    tail = ap (λ (k : Option Known). tail_before k (kept_by (new.named name) new.unnamed (length m.file))
+        (length m.file)) (h.known name not)
+        ∙ ap (λ (k : Option ℕ). tail_before (old.known name) (kept_by k new.unnamed (length m.file))
+        (length m.file)) (h.named name not)
+        ∙ ap (λ u. tail_before (old.known name) (kept_by (old.named name) u (length m.file)) (length m.file))
+        (h.unnamed ∙ sym was) ∙ at.tail;
+  };
+}

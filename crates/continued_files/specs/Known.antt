@@ -1,14 +1,14 @@
 -- What is known of files in which readers go on.
-use Rattle.std.specs.Prelude.{◌≡◌, ◌≤◌, ◌≢◌, ◌⊎◌, ◌<◌, ℕ, List, [], ◌∷◌, length, Option, None, Some, nat_lt}
+use Rattle.std.specs.Prelude.{◌≡◌, ◌≤◌, ◌≢◌, ◌<◌, ℕ, List, [], ◌∷◌, length, Bool, false, true, Option, None, Some, nat_lt}
 use Rattle.std.specs.Prelude.{if◌then◌else◌, String}
 use Rattle.std.specs.BTreeMap.{BTreeMap, get_by_text}
 use Rattle.std.specs.Str.{bytes_eq}
 use Rattle.continued_files.specs.Indexes.{Indexes}
 use Rattle.continued_files.specs.Lengths.{LengthValue}
 use Rattle.continued_files.specs.Tails.{HasNone, IsLeft, TailValue, kept_length, tail_of}
-use Rattle.continued_files.specs.declared.continued.Known.{Known}
-use Rattle.continued_files.specs.declared.continued.Unnamed.{Unnamed}
-use Rattle.continued_files.specs.declared.continued.Unnamed.TheVariants.{Kept, Tail}
+use Rattle.continued_files.specs.declared.known.Known.{Known}
+use Rattle.continued_files.specs.declared.known.Unnamed.{Unnamed}
+use Rattle.continued_files.specs.declared.known.Unnamed.TheVariants.{Kept, Tail}
 
 -- the length that is named of a file
 abbrev pub length_of : List LengthValue → List ℕ → Option ℕ
@@ -42,21 +42,26 @@ abbrev pub IsCounted : Option Known → List (List ℕ) → Type 0
 IsCounted None rs = Unit {0}
 IsCounted (Some k) rs = k.count ≤ length rs
 
--- So many records were added since one of the tail was handed that what is left of it is given up.
-abbrev pub IsGivenUp : Option Known → Type 0
-IsGivenUp None = ⊥
-IsGivenUp (Some k) = 1048576 ≤ k.added
-
--- Its tail is over: nothing of it was left, or what was left is given up.
-pub record EndsTail (old new : Known) : Type 0 where
+-- What was left of its tail is given up.
+pub record GivesUp (old new : Known) : Type 0 where
   pub tail : new.tail.tail ≡ record { from = old.count; left = [] }
   pub count : new.count ≡ old.count
-  pub over : HasNone old.tail.tail ⊎ (1048576 ≤ old.added)
+
+-- Its tail is over: nothing of it was left.
+pub record EndsTail (old new : Known) : Type 0 where
+  pub given : GivesUp old new
+  pub none : HasNone old.tail.tail
 
 -- The same is known of a file, or its tail is over.
 pub data Settles : Option Known → Option Known → Type 0 where
   Stays : (known : Option Known) → Settles known known
   Ends : (old new : Known) → EndsTail old new → Settles (Some old) (Some new)
+
+-- What was left of the tail of a file is given up, if that is so, and else the same is known of it.
+abbrev pub GivesUpIf : Bool → Option Known → Option Known → Type 0
+GivesUpIf b None new = new ≡ None
+GivesUpIf false (Some k) new = new ≡ Some k
+GivesUpIf true (Some k) new = (k' : Known) × (new ≡ Some k') × GivesUp k k'
 
 -- This tail of the file is known.
 abbrev pub Knows : Option Known → List (List ℕ) → TailValue → Type 0
@@ -85,10 +90,6 @@ module _ {Y : Type 0} where
       → IsLeft (tail_before (get_by_text old name) (kept name count) count) place
       → IsLeft (tail_before (get_by_text new name) (kept' name count) count) place
 
-  -- Of each file each place is left that was left, unless what is left of its tail is given up.
-  abbrev pub RenewsTails : BTreeMap (String Y) Known → (List ℕ → ℕ → ℕ) → BTreeMap (String Y) Known
-      → (List ℕ → ℕ → ℕ) → Type 0
-  RenewsTails old kept new kept' = (name : List ℕ) (count place : ℕ) → place < count
-      → IsLeft (tail_before (get_by_text old name) (kept name count) count) place
-      → IsLeft (tail_before (get_by_text new name) (kept' name count) count) place
-      ⊎ IsGivenUp (get_by_text old name)
+  -- What is left of the tails of some files is given up.
+  abbrev pub GivesUpOf : (List ℕ → Bool) → BTreeMap (String Y) Known → BTreeMap (String Y) Known → Type 0
+  GivesUpOf of old new = (name : List ℕ) → GivesUpIf (of name) (get_by_text old name) (get_by_text new name)

@@ -6,6 +6,7 @@ pub mod Places
 pub mod Tails
 pub mod Hashes
 pub mod Indexes
+pub mod Names
 pub mod Known
 pub mod Runs
 pub mod Steps

@@ -1,15 +1,16 @@
 -- How the calls of files in which readers go on follow the law of their runs: each is a step of each file.
-use Rattle.std.specs.Prelude.{◌≡◌, ◌≢◌, ◌<◌, ◌+◌, ℕ, List, length, Option, Some, String}
+use Rattle.std.specs.Prelude.{◌≡◌, ◌≢◌, ◌<◌, ◌+◌, ℕ, List, length, Bool, false, true, Option, Some, String}
 use Rattle.std.specs.BTreeMap.{BTreeMap}
 use Rattle.continued_files.specs.Files.{Told, Tells}
-use Rattle.continued_files.specs.Known.{IsCounted, IsGivenUp, IsIndexed, kept_by, known_at, length_of, tail_before}
+use Rattle.continued_files.specs.Known.{IsCounted, IsIndexed, kept_by, known_at, length_of, tail_before}
 use Rattle.continued_files.specs.Lengths.{LengthValue}
 use Rattle.continued_files.specs.Places.{record_at}
 use Rattle.continued_files.specs.Runs.{AreDistinct, AreOf, IsOf, Moment, Numbers, Series, Step, after_record}
-use Rattle.continued_files.specs.Runs.{after_renewal, after_sync}
+use Rattle.continued_files.specs.Runs.{after_renewal, after_return, after_sync}
 use Rattle.continued_files.specs.Tails.{IsLeft, TailValue}
-use Rattle.continued_files.specs.declared.continued.Known.{Known}
-use Rattle.continued_files.specs.declared.continued.Unnamed.{Unnamed}
+use Rattle.continued_files.specs.declared.known.Known.{Known}
+use Rattle.continued_files.specs.declared.known.Unnamed.{Unnamed}
+use Rattle.continued_files.specs.declared.known.Unnamed.TheVariants.{Tail}
 
 -- files, by what they tell, what is known of them, and what a state names
 pub record FilesValue : Type 0 where
@@ -58,13 +59,26 @@ pub record HandsStep (old new : FilesValue) (name r : List ℕ) : Type 0 where
       × Step s m (after_record m number comes tail file) × IsAt new name (after_record m number comes tail file)
   pub others : (m : Moment) (other : List ℕ) → other ≢ name → IsAt old other m → IsAt new other m
 
--- Nothing comes of what is left of a tail that is given up.
-abbrev pub ComesNoMore : FilesValue → List ℕ → Series → Moment → Type 0
-ComesNoMore v name s m = IsGivenUp (v.known name) → (place n : ℕ) → IsLeft m.tail place
-    → record_at m.file place ≡ s n → IsOf m.comes n → ⊥
-
--- All files are synced, and then perhaps tails are made anew, or given up.
+-- All files are synced, and then perhaps tails are made anew.
 abbrev pub SyncsStep : FilesValue → FilesValue → Type 0
 SyncsStep old new = (s : Series) (m : Moment) (name : List ℕ) → AreDistinct s → IsAt old name m
-    → ComesNoMore old name s m → (tail : TailValue) × Step s (after_sync m) (after_renewal (after_sync m) tail)
+    → (tail : TailValue) × Step s (after_sync m) (after_renewal (after_sync m) tail)
     × IsAt new name (after_renewal (after_sync m) tail)
+
+-- Nothing comes of what is left of a tail.
+abbrev pub ComesNoMore : Series → Moment → Type 0
+ComesNoMore s m = (place n : ℕ) → IsLeft m.tail place → record_at m.file place ≡ s n → IsOf m.comes n → ⊥
+
+-- What is left of the tails of some files is given up, of which nothing comes any more.
+abbrev pub GivesUpStep : FilesValue → FilesValue → (List ℕ → Bool) → Type 0
+GivesUpStep old new of = (s : Series) (m : Moment) (name : List ℕ) → AreDistinct s → IsAt old name m
+    → (of name ≡ true → ComesNoMore s m) → (tail : TailValue) × Step s m (after_renewal m tail)
+    × IsAt new name (after_renewal m tail)
+
+-- A server's numbers go back, so that the records of some files may come anew: a step of each of these, and nothing of
+-- the others, if a file that is not named is tail.
+pub record ReturnsStep (old new : FilesValue) (of : List ℕ → Bool) : Type 0 where
+  pub here : (m : Moment) (name : List ℕ) (comes : Numbers) → of name ≡ true → IsAt old name m
+      → IsAt new name (after_return m comes)
+  pub others : old.unnamed ≡ Tail → (m : Moment) (name : List ℕ) → of name ≡ false → IsAt old name m
+      → IsAt new name m

@@ -6,156 +6,48 @@
 //! stays named until a record comes to the file, or the file is gone.
 //!
 //! A record of a tail that doesn't come again, since the servers have lost it, would be looked for in vain for good, and
-//! each reader would read the file from there on. So what is left of a tail is given up once a million records were
-//! added after the last one that it had: the servers hand older records first.
-ghost use Rattle.std.specs.Prelude.{◌≡◌, ◌≢◌, ◌≤◌, ◌⊎◌, [], ℕ, List, IfOk, None, OnOk, Some, is_some, length, true};
-ghost use Rattle.std.specs.Str.{IsUtf8};
-ghost use Rattle.continued_files.specs.Indexes.{Indexes};
-ghost use Rattle.continued_files.specs.Known.{IsIndexed, KeepsIndexes, KeepsTails, Knows, KnowsOthers, RenewsTails, Settles};
-ghost use Rattle.continued_files.specs.Known.{kept_by, known_at, length_of, length_told, tail_before};
-ghost use Rattle.continued_files.specs.Runs.{Moment, Numbers, after_return};
-ghost use Rattle.continued_files.specs.Steps.{HandsStep, IsAt, SyncsStep, files_value};
-ghost use Rattle.continued_files.specs.Tails.{HasNone, Offers, TailValue, all_from};
+//! each reader would read the file from there on. When none comes any more is known to whoever knows of servers: then
+//! what is left of tails is given up.
+ghost use Rattle.std.specs.Prelude.{◌≡◌, ◌≢◌, ◌+◌, ◌⊎◌, [], ℕ, List, IfOk, None, OnOk, Some, if◌then◌else◌, length};
+ghost use Rattle.std.specs.Prelude.{false, true};
+ghost use Rattle.continued_files.specs.Known.{GivesUpOf, IsIndexed, Knows, KnowsOthers, kept_by, known_at, length_of};
+ghost use Rattle.continued_files.specs.Known.{tail_before};
+ghost use Rattle.continued_files.specs.Names.{has};
+ghost use Rattle.continued_files.specs.Steps.{GivesUpStep, HandsStep, ReturnsStep, files_value};
+ghost use Rattle.continued_files.specs.Tails.{Offers, TailValue, all_from};
 ghost use Rattle.sl_io.specs.Counts.{CountsFailure};
-ghost use Rattle.continued_files.specs.Files.{MakesSafe, Tells, TellsOthers, TellsSame};
+ghost use Rattle.continued_files.specs.Files.{Tells, TellsOthers, TellsSame};
 ghost use Rattle.continued_files.specs.Puts.{StandsAfter};
 
 use crate::files::{FolderFault, RecordFiles};
+use crate::known::{
+    Known, ShortFile, Unnamed, drop_known, drop_lengths, give_up_tails, named_count,
+};
 use crate::lengths::FileLength;
+use crate::names::FileNames;
 use crate::tail::Tail;
-use crate::turns::place_after;
-use std::alloc::{AllocError, Global};
+use std::alloc::Global;
 use std::collections::BTreeMap;
-
-/// For how many syncs a file is remembered to which nothing was handed.
-const REMEMBERED: u64 = 3_600;
-
-/// After how many records that were added, since one of the tail was handed, what is left of it is given up.
-const GIVEN_UP: u64 = 1_048_576;
-
-/// What stands in a file that the state does not name.
-#[derive(Clone, Copy, Drop)]
-pub enum Unnamed {
-    /// Records that are not handed again.
-    Kept,
-    /// Records that may be handed again: the file was made after the state was kept.
-    Tail,
-}
-
-/// A file that had fewer records than were counted: it is another one, or has lost some.
-#[derive(Drop)]
-pub struct ShortFile {
-    /// Its name.
-    pub name: String,
-    /// How many records it had.
-    pub count: u64,
-    /// How many were counted.
-    pub kept: u64,
-}
-
-/// A file to which a record was handed: what is left of its tail, how many records it has, and how many syncs there had
-/// been when a record of it was handed last.
-#[derive(Drop)]
-pub struct Known {
-    tail: Tail,
-    count: u64,
-    syncs: u64,
-    /// How many records were added since one of the tail was handed.
-    added: u64,
-}
-
-impl Known {
-    /// Hands a record to the file, which has so many: it is added at the end, or passed over if it stands in what an
-    /// earlier reader left there.
-    fn hand<F: RecordFiles>(
-        &mut self,
-        files: &mut F,
-        name: &str,
-        bytes: &[u8; 512],
-        count: u64,
-        syncs: u64,
-    ) -> Result<(), FolderFault>
-        ensures stands { OnOk result (StandsAfter name.now bytes.now (F.records files.old) (F.records files.new)) }
-        ensures offers { OnOk result ((rs : List (List ℕ)) → Tells (F.records files.old) name.now rs
-            → count ≡ length rs → Indexes self.old.tail rs → (rs' : List (List ℕ))
-            × Tells (F.records files.new) name.now rs' × (self.new.count ≤ length rs') × Indexes self.new.tail rs'
-            × Offers self.old.tail.tail rs bytes.now self.new.tail.tail rs') }
-        ensures others { TellsOthers name.now (F.records files.old) (F.records files.new) }
-        ensures safe { TellsSame (F.safe files.old) (F.safe files.new) }
-    {
-        let is_added = self.tail.offer(files, name, bytes)?;
-        self.count = count.saturating_add(u64::from(is_added));
-        self.syncs = syncs;
-        self.added = if is_added {
-            self.added.saturating_add(1)
-        } else {
-            0
-        };
-        Ok(())
-    }
-
-    /// Whether nothing of its tail is handed any more, though it takes memory: nothing is left, or what is left is given
-    /// up.
-    fn is_over(&self) -> bool
-        ensures { result ≡ true → HasNone self.now.tail.tail ⊎ (1048576 ≤ self.now.added) }
-    {
-        self.tail.is_over() || (self.tail.is_held() && self.added >= GIVEN_UP)
-    }
-
-    /// Lets go of the memory of its tail, if nothing of that is handed any more.
-    fn settle(&mut self, alloc: Global)
-        ensures { Settles (Some self.old) (Some self.new) }
-    {
-        if self.is_over() {
-            self.tail = Tail::none(alloc, self.count);
-        }
-    }
-}
 
 /// Files of records to which each record is added once, though it is handed again to a reader that goes on after one
 /// that was stopped.
 #[derive(Drop)]
 pub struct ContinuedFiles<F: RecordFiles> {
-    alloc: Global,
-    files: F,
+    pub(crate) alloc: Global,
+    pub(crate) files: F,
     /// What the state says of files, when the reader begins.
-    named: Vec<FileLength>,
-    unnamed: Unnamed,
+    pub(crate) named: Vec<FileLength>,
+    pub(crate) unnamed: Unnamed,
     /// What is known of the files to which records were handed, by their names.
-    all: BTreeMap<String, Known>,
-    syncs: u64,
+    pub(crate) all: BTreeMap<String, Known>,
+    pub(crate) syncs: u64,
     /// The place of the file among those that the state names of which it is asked next whether it is gone.
-    asked: usize,
+    pub(crate) asked: usize,
     /// A file that had fewer records than were counted, since that was asked last.
     short: Option<ShortFile>,
-    failures: u64,
-}
-
-/// The length that is named of a file.
-fn named_count(named: &[FileLength], name: &str) -> Option<u64>
-    ensures { result ≡ length_of named.now name.now }
-{
-    for length in named {
-        if length.name() == name.as_bytes() {
-            return Some(length.count());
-        }
-    }
-    None
-}
-
-/// The length of a file is named no more.
-fn drop_named(named: &mut Vec<FileLength>, name: &str)
-    ensures others { (other : List ℕ) → other ≢ name.now
-        → length_of named.new.items other ≡ length_of named.old.items other }
-    ensures none { length_of named.new.items name.now ≡ None }
-{
-    let mut at = named.len();
-    while at > 0 {
-        at -= 1;
-        if named[at].name() == name.as_bytes() {
-            named.remove(at);
-        }
-    }
+    /// Whether the record that was handed last stood in a tail.
+    is_passed: bool,
+    pub(crate) failures: u64,
 }
 
 impl<F: RecordFiles> ContinuedFiles<F> {
@@ -179,6 +71,7 @@ impl<F: RecordFiles> ContinuedFiles<F> {
             syncs: 0,
             asked: 0,
             short: None,
+            is_passed: false,
             failures: 0,
         }
     }
@@ -270,21 +163,12 @@ impl<F: RecordFiles> ContinuedFiles<F> {
         }
         let tail = Tail::new(self.alloc, &mut self.files, name, kept, count)?;
         let syncs = self.syncs;
-        let added = 0;
-        self.remember(
-            name,
-            Known {
-                tail,
-                count,
-                syncs,
-                added,
-            },
-        )
+        self.remember(name, Known { tail, count, syncs })
     }
 
     /// Hands a record to a file: it is added at the end, or passed over if it stands in what an earlier reader left
-    /// there. If it fails, nothing was added, or there is no memory to remember it.
-    fn offer(&mut self, name: &str, bytes: &[u8; 512]) -> Result<(), FolderFault>
+    /// there. Answers whether it was added. If it fails, nothing was added, or there is no memory to remember it.
+    fn offer(&mut self, name: &str, bytes: &[u8; 512]) -> Result<bool, FolderFault>
         ensures stands { OnOk result
             (StandsAfter name.now bytes.now (F.records self.old.files) (F.records self.new.files)) }
         ensures offers { OnOk result ((rs : List (List ℕ)) → Tells (F.records self.old.files) name.now rs
@@ -293,6 +177,9 @@ impl<F: RecordFiles> ContinuedFiles<F> {
             × Offers (tail_before (known_at self.old.all name.now)
             (kept_by (length_of self.old.named.items name.now) self.old.unnamed (length rs)) (length rs))
             rs bytes.now t rs') }
+        ensures added { IfOk result (λ is_added. (rs : List (List ℕ)) → Tells (F.records self.old.files) name.now rs
+            → (rs' : List (List ℕ)) → Tells (F.records self.new.files) name.now rs'
+            → length rs' ≡ length rs + (if is_added then 1 else 0)) }
         ensures other_tails { OnOk result (KnowsOthers name.now self.old.all self.new.all) }
         ensures rest { (self.new.named ≡ self.old.named) × (self.new.unnamed ≡ self.old.unnamed) }
         ensures others { TellsOthers name.now (F.records self.old.files) (F.records self.new.files) }
@@ -308,31 +195,57 @@ impl<F: RecordFiles> ContinuedFiles<F> {
         }
     }
 
-    /// The numbers of a server went back, so that any record may be handed anew: from now on all of each file is tail.
-    /// Of files to which nothing is handed after it no length is told.
-    pub fn return_to_begin(&mut self)
-        ensures tails { (name : List ℕ) (count : ℕ) → tail_before (known_at self.new.all name)
-            (kept_by (length_of self.new.named.items name) self.new.unnamed count) count ≡ all_from 0 count }
-        ensures step { (m : Moment) (name : List ℕ) (comes : Numbers) → IsAt (files_value (F.records self.old.files)
-            (F.safe self.old.files) self.old.all self.old.named.items self.old.unnamed) name m
-            → IsAt (files_value (F.records self.new.files) (F.safe self.new.files) self.new.all
-            self.new.named.items self.new.unnamed) name (after_return m comes) }
+    /// The numbers of a server went back, so that any record of some files may be handed anew: from now on all of each
+    /// of these is tail. Of those to which nothing is handed after it no length is told. Others stay as they are, if a
+    /// file that is not named is tail.
+    pub fn return_to_begin(&mut self, names: &FileNames<'_>)
+        ensures tails { (name : List ℕ) (count : ℕ) → has names.now name ≡ true → tail_before
+            (known_at self.new.all name) (kept_by (length_of self.new.named.items name) self.new.unnamed count) count
+            ≡ all_from 0 count }
+        ensures others { (name : List ℕ) → has names.now name ≡ false
+            → (known_at self.new.all name ≡ known_at self.old.all name)
+            × (length_of self.new.named.items name ≡ length_of self.old.named.items name) }
+        ensures step { ReturnsStep (files_value (F.records self.old.files) (F.safe self.old.files) self.old.all
+            self.old.named.items self.old.unnamed) (files_value (F.records self.new.files) (F.safe self.new.files)
+            self.new.all self.new.named.items self.new.unnamed) (has names.now) }
+        ensures unnamed { self.new.unnamed ≡ Unnamed.Tail }
         ensures same { self.new.files ≡ self.old.files }
         ensures failures { self.new.failures ≡ self.old.failures }
     {
-        self.all.clear();
-        self.named.clear();
+        drop_known(&mut self.all, names);
+        drop_lengths(&mut self.named, names);
         self.unnamed = Unnamed::Tail;
+    }
+
+    /// No record comes any more that stands in what is left of the tails of some files: that is given up.
+    pub fn give_up(&mut self, names: &FileNames<'_>)
+        ensures tails { GivesUpOf (has names.now) self.old.all self.new.all }
+        ensures step { GivesUpStep (files_value (F.records self.old.files) (F.safe self.old.files) self.old.all
+            self.old.named.items self.old.unnamed) (files_value (F.records self.new.files) (F.safe self.new.files)
+            self.new.all self.new.named.items self.new.unnamed) (has names.now) }
+        ensures rest { (self.new.files ≡ self.old.files) × (self.new.named ≡ self.old.named)
+            × (self.new.unnamed ≡ self.old.unnamed) × (self.new.failures ≡ self.old.failures) }
+    {
+        give_up_tails(self.alloc, &mut self.all, names);
     }
 
     /// A file that had fewer records than were counted, once: the last of several. Until another state is kept the file
     /// has to stay shorter than that: else a reader that goes on takes its first records for counted ones.
     pub fn take_short(&mut self) -> Option<ShortFile>
+        ensures short { result ≡ self.old.short }
+        ensures none { self.new.short ≡ None }
         ensures same { (self.new.files ≡ self.old.files) × (self.new.all ≡ self.old.all)
             × (self.new.named ≡ self.old.named) × (self.new.unnamed ≡ self.old.unnamed) }
         ensures failures { self.new.failures ≡ self.old.failures }
     {
         self.short.take()
+    }
+
+    /// Whether the record that was handed last stood in what an earlier reader left, and so was passed over.
+    pub fn is_passed(&self) -> bool
+        ensures { result ≡ self.now.is_passed }
+    {
+        self.is_passed
     }
 
     /// Hands a record to a file: it is added at the end, or passed over if it stands in what an earlier reader left
@@ -352,183 +265,20 @@ impl<F: RecordFiles> ContinuedFiles<F> {
             (F.safe self.new.files) self.new.all self.new.named.items self.new.unnamed) name.now bytes.now) }
         ensures others { TellsOthers name.now (F.records self.old.files) (F.records self.new.files) }
         ensures safe { TellsSame (F.safe self.old.files) (F.safe self.new.files) }
+        ensures passed { OnOk result ((rs : List (List ℕ)) → Tells (F.records self.old.files) name.now rs
+            → (rs' : List (List ℕ)) → Tells (F.records self.new.files) name.now rs'
+            → length rs' ≡ length rs + (if self.new.is_passed then 0 else 1)) }
         ensures failure { CountsFailure self.old.failures self.new.failures result }
     {
-        let handed = self.offer(name, bytes);
-        if handed.is_err() {
-            self.failures = self.failures.wrapping_add(1);
-        }
-        handed
-    }
-
-    /// The name of a file to which nothing was handed for long, if there is one.
-    fn idle_name(&self) -> Option<String> {
-        let syncs = self.syncs;
-        for (name, known) in &self.all {
-            if known.syncs.saturating_add(REMEMBERED) <= syncs {
-                return String::from_str(self.alloc, name.as_str()).ok();
+        match self.offer(name, bytes) {
+            Ok(is_added) => {
+                self.is_passed = !is_added;
+                Ok(())
+            }
+            Err(fault) => {
+                self.failures = self.failures.wrapping_add(1);
+                Err(fault)
             }
         }
-        None
-    }
-
-    /// The name of a file of whose tail nothing is handed any more, if there is one.
-    fn over_name(&self) -> Option<String> {
-        for (name, known) in &self.all {
-            if known.is_over() {
-                return String::from_str(self.alloc, name.as_str()).ok();
-            }
-        }
-        None
-    }
-
-    /// Lets go of the memory of the tail of a file, if nothing of that is handed any more.
-    fn settle_one(&mut self, name: &str)
-        ensures known { Settles (known_at self.old.all name.now) (known_at self.new.all name.now) }
-        ensures others { KnowsOthers name.now self.old.all self.new.all }
-        ensures rest { (self.new.files ≡ self.old.files) × (self.new.named ≡ self.old.named)
-            × (self.new.unnamed ≡ self.old.unnamed) × (self.new.failures ≡ self.old.failures) }
-    {
-        let alloc = self.alloc;
-        if let Some(known) = self.all.get_mut(name) {
-            known.settle(alloc);
-        }
-    }
-
-    /// Lets go of the memory of a tail of which nothing is handed any more.
-    fn settle(&mut self)
-        ensures left { RenewsTails self.old.all (λ name count. kept_by (length_of self.old.named.items name)
-            self.old.unnamed count) self.new.all (λ name count. kept_by (length_of self.new.named.items name)
-            self.new.unnamed count) }
-        ensures indexed { KeepsIndexes self.old.all self.new.all }
-        ensures rest { (self.new.files ≡ self.old.files) × (self.new.named ≡ self.old.named)
-            × (self.new.unnamed ≡ self.old.unnamed) × (self.new.failures ≡ self.old.failures) }
-    {
-        if let Some(name) = self.over_name() {
-            self.settle_one(&name);
-        }
-    }
-
-    /// Nothing is known any more of the file of a name, and the state doesn't name it.
-    fn forget_one(&mut self, name: &str)
-        ensures known { (other : List ℕ) → other ≢ name.now → (known_at self.new.all other ≡ known_at self.old.all other)
-            × (length_of self.new.named.items other ≡ length_of self.old.named.items other) }
-        ensures none { (known_at self.new.all name.now ≡ None) × (length_of self.new.named.items name.now ≡ None) }
-        ensures rest { (self.new.files ≡ self.old.files) × (self.new.unnamed ≡ self.old.unnamed)
-            × (self.new.failures ≡ self.old.failures) }
-    {
-        self.all.remove(name);
-        drop_named(&mut self.named, name);
-    }
-
-    /// The name of a file that the state names and that is gone, if it is the turn of that one.
-    fn gone_name(&mut self) -> Option<String>
-        ensures { (self.new.files ≡ self.old.files) × (self.new.all ≡ self.old.all)
-            × (self.new.named ≡ self.old.named) × (self.new.unnamed ≡ self.old.unnamed)
-            × (self.new.failures ≡ self.old.failures) }
-    {
-        self.asked = place_after(self.asked, self.named.len());
-        let length = self.named.get(self.asked)?;
-        let name = str::from_utf8(length.name()).ok()?;
-        if self.files.is_gone(name) {
-            String::from_str(self.alloc, name).ok()
-        } else {
-            None
-        }
-    }
-
-    /// A file to which nothing was handed for long is forgotten, and so is one that the state names and that is gone, if
-    /// that loses nothing: all of a file that is not known and not named is tail.
-    fn forget(&mut self)
-        ensures left { KeepsTails self.old.all (λ name count. kept_by (length_of self.old.named.items name)
-            self.old.unnamed count) self.new.all (λ name count. kept_by (length_of self.new.named.items name)
-            self.new.unnamed count) }
-        ensures indexed { KeepsIndexes self.old.all self.new.all }
-        ensures same { self.new.files ≡ self.old.files }
-        ensures failures { self.new.failures ≡ self.old.failures }
-    {
-        if let Unnamed::Tail = self.unnamed {
-            if let Some(name) = self.idle_name() {
-                self.forget_one(&name);
-            } else if let Some(name) = self.gone_name() {
-                self.forget_one(&name);
-            }
-        }
-    }
-
-    /// Makes all records last that were handed so far.
-    pub fn sync(&mut self) -> Result<(), FolderFault>
-        ensures left { OnOk result (RenewsTails self.old.all (λ name count. kept_by
-            (length_of self.old.named.items name) self.old.unnamed count) self.new.all (λ name count. kept_by
-            (length_of self.new.named.items name) self.new.unnamed count)) }
-        ensures indexed { OnOk result (KeepsIndexes self.old.all self.new.all) }
-        ensures same { TellsSame (F.records self.old.files) (F.records self.new.files) }
-        ensures safe { OnOk result (MakesSafe (F.records self.new.files) (F.safe self.new.files)) }
-        ensures failures { self.new.failures ≡ self.old.failures }
-        ensures step { OnOk result (SyncsStep (files_value (F.records self.old.files) (F.safe self.old.files)
-            self.old.all self.old.named.items self.old.unnamed) (files_value (F.records self.new.files)
-            (F.safe self.new.files) self.new.all self.new.named.items self.new.unnamed)) }
-    {
-        self.files.sync()?;
-        self.syncs = self.syncs.saturating_add(1);
-        self.settle();
-        self.forget();
-        Ok(())
-    }
-
-    /// Makes all records last that were handed so far, and then tells how many records of each file don't come again.
-    pub fn last(&mut self) -> Result<Vec<FileLength>, FolderFault>
-        ensures same { TellsSame (F.records self.old.files) (F.records self.new.files) }
-        ensures safe { OnOk result (MakesSafe (F.records self.new.files) (F.safe self.new.files)) }
-        ensures failures { self.new.failures ≡ self.old.failures }
-        ensures step { OnOk result (SyncsStep (files_value (F.records self.old.files) (F.safe self.old.files)
-            self.old.all self.old.named.items self.old.unnamed) (files_value (F.records self.new.files)
-            (F.safe self.new.files) self.new.all self.new.named.items self.new.unnamed)) }
-        ensures lengths { IfOk result (λ lengths. (name : List ℕ) → IsUtf8 name → length_of lengths.items name
-            ≡ length_told (known_at self.new.all name) (length_of self.new.named.items name)) }
-    {
-        self.sync()?;
-        match self.lengths() {
-            Ok(lengths) => Ok(lengths),
-            Err(_) => Err(FolderFault),
-        }
-    }
-
-    /// How many records of each file don't come again.
-    fn lengths(&self) -> Result<Vec<FileLength>, AllocError>
-        ensures { IfOk result (λ lengths. (name : List ℕ) → IsUtf8 name → length_of lengths.items name
-            ≡ length_told (known_at self.now.all name) (length_of self.now.named.items name)) }
-    {
-        let mut lengths = self.known_lengths()?;
-        for length in &self.named {
-            if self.is_known(length.name()) {
-                continue;
-            }
-            lengths.push(FileLength::new(self.alloc, length.name(), length.count())?)?;
-        }
-        Ok(lengths)
-    }
-
-    /// Whether the file of that name is known.
-    fn is_known(&self, name: &[u8]) -> bool
-        ensures { IsUtf8 name.now → result ≡ is_some (known_at self.now.all name.now) }
-    {
-        match str::from_utf8(name) {
-            Ok(name) => self.all.contains_key(name),
-            Err(_) => false,
-        }
-    }
-
-    /// How many records of each file that is known don't come again.
-    fn known_lengths(&self) -> Result<Vec<FileLength>, AllocError>
-        ensures { IfOk result (λ lengths. (name : List ℕ) → length_of lengths.items name
-            ≡ length_told (known_at self.now.all name) None) }
-    {
-        let mut lengths = Vec::new(self.alloc);
-        for (name, known) in &self.all {
-            let count = known.tail.kept_length(known.count);
-            lengths.push(FileLength::new(self.alloc, name.as_bytes(), count)?)?;
-        }
-        Ok(lengths)
     }
 }

@@ -5,16 +5,21 @@
 mod continued;
 mod files;
 mod hashes;
+mod known;
+mod lasting;
 mod law;
 mod lengths;
 mod memory_files;
+mod names;
 mod tail;
 mod turns;
 
-pub use continued::{ContinuedFiles, Known, ShortFile, Unnamed};
+pub use continued::ContinuedFiles;
 pub use files::{FolderFault, RecordFiles};
+pub use known::{Known, ShortFile, Unnamed};
 pub use law::each_record_stands_once;
 pub use lengths::FileLength;
 pub use memory_files::{MemoryFiles, NamedRecord};
+pub use names::FileNames;
 pub use tail::{Entry, Tail};
 pub use turns::place_after;

@@ -161,11 +161,6 @@ impl Tail {
         self.taken > 0 && self.taken >= self.left.len() && !self.left.contains(&true)
     }
 
-    /// Whether it has places.
-    pub fn is_held(&self) -> bool {
-        !self.left.is_empty()
-    }
-
     /// How many records of the file, which has so many, don't come again.
     pub fn kept_length(&self, count: u64) -> u64
         ensures { result ≡ kept_length self.now.tail count }

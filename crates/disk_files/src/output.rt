@@ -1,15 +1,14 @@
 //! One file to which records are put.
-ghost use Rattle.std.specs.Prelude.{◌≡◌, ℕ, IfOk, List, OnOk, codes};
+ghost use Rattle.std.specs.Prelude.{◌≡◌, ◌+◌, ℕ, IfOk, List, OnOk, codes, if◌then◌else◌, length, true};
 ghost use Rattle.std.specs.Str.{IsUtf8};
-ghost use Rattle.continued_files.specs.Files.{MakesSafe, TellsSame};
-ghost use Rattle.continued_files.specs.Known.{kept_by, known_at, length_of, length_told, tail_before};
+ghost use Rattle.continued_files.specs.Files.{MakesSafe, Tells, TellsSame};
+ghost use Rattle.continued_files.specs.Known.{GivesUpOf, kept_by, known_at, length_of, length_told, tail_before};
 ghost use Rattle.continued_files.specs.Puts.{StandsAfter};
-ghost use Rattle.continued_files.specs.Runs.{Moment, Numbers, after_return};
-ghost use Rattle.continued_files.specs.Steps.{HandsStep, IsAt, SyncsStep, files_value};
-ghost use Rattle.continued_files.specs.Tails.{all_from};
+ghost use Rattle.continued_files.specs.Runs.{AreDistinct, Moment, Numbers, Series, Step, after_renewal, after_return};
+ghost use Rattle.continued_files.specs.Steps.{ComesNoMore, HandsStep, IsAt, SyncsStep, files_value};
+ghost use Rattle.continued_files.specs.Tails.{TailValue, all_from};
 
-use crate::disk_files::{DiskFiles, FileFailure};
-use continued_files::{ContinuedFiles, FileLength, FolderFault, RecordFiles, ShortFile};
+use continued_files::{ContinuedFiles, FileLength, FileNames, FolderFault, RecordFiles, ShortFile};
 
 /// The name of the one file.
 pub const ONE_FILE: &str = "-";
@@ -27,6 +26,13 @@ impl<F: RecordFiles> ContinuedOutput<F> {
         ensures { result.files ≡ files }
     {
         ContinuedOutput { files }
+    }
+
+    /// The files, for calls that not all files have.
+    pub fn files_mut(&mut self) -> &mut ContinuedFiles<F>
+        ensures { result.now ≡ self.old.files }
+    {
+        &mut self.files
     }
 
     /// The files.
@@ -58,6 +64,9 @@ impl<F: RecordFiles> ContinuedOutput<F> {
             (files_value (F.records self.new.files.files) (F.safe self.new.files.files)
             self.new.files.all self.new.files.named.items self.new.files.unnamed) (codes "-") bytes.now) }
         ensures safe { TellsSame (F.safe self.old.files.files) (F.safe self.new.files.files) }
+        ensures passed { OnOk result ((rs : List (List ℕ)) → Tells (F.records self.old.files.files) (codes "-") rs
+            → (rs' : List (List ℕ)) → Tells (F.records self.new.files.files) (codes "-") rs'
+            → length rs' ≡ length rs + (if self.new.files.is_passed then 0 else 1)) }
     {
         self.files.hand(ONE_FILE, bytes)
     }
@@ -73,7 +82,28 @@ impl<F: RecordFiles> ContinuedOutput<F> {
             self.new.files.all self.new.files.named.items self.new.files.unnamed) name (after_return m comes) }
         ensures same { self.new.files.files ≡ self.old.files.files }
     {
-        self.files.return_to_begin();
+        self.files.return_to_begin(&FileNames::each());
+    }
+
+    /// No record comes any more that stands in what is left of the file's tail: that is given up.
+    pub fn give_up(&mut self)
+        ensures step { (s : Series) (m : Moment) (name : List ℕ) → AreDistinct s
+            → IsAt (files_value (F.records self.old.files.files) (F.safe self.old.files.files)
+            self.old.files.all self.old.files.named.items self.old.files.unnamed) name m → ComesNoMore s m
+            → (tail : TailValue) × Step s m (after_renewal m tail)
+            × IsAt (files_value (F.records self.new.files.files) (F.safe self.new.files.files)
+            self.new.files.all self.new.files.named.items self.new.files.unnamed) name (after_renewal m tail) }
+        ensures tails { GivesUpOf (λ _. true) self.old.files.all self.new.files.all }
+        ensures same { self.new.files.files ≡ self.old.files.files }
+    {
+        self.files.give_up(&FileNames::each());
+    }
+
+    /// Whether the record that was put last stood in what an earlier reader left, and so was passed over.
+    pub fn is_passed(&self) -> bool
+        ensures { result ≡ self.now.files.is_passed }
+    {
+        self.files.is_passed()
     }
 
     /// The file, if it had fewer records than were counted, once: then a state is to be kept at once.
@@ -81,22 +111,5 @@ impl<F: RecordFiles> ContinuedOutput<F> {
         ensures { self.new.files.files ≡ self.old.files.files }
     {
         self.files.take_short()
-    }
-}
-
-impl ContinuedOutput<DiskFiles<'_>> {
-    /// Records of another piece come next. It is looked then whether the path still names the file.
-    pub fn begin(&mut self) {
-        self.files.files_mut().begin();
-    }
-
-    /// The path of the file, if its torn end was put aside, once.
-    pub fn take_torn(&mut self) -> Option<String> {
-        self.files.files_mut().take_torn()
-    }
-
-    /// What the system says of the last call that failed, once.
-    pub fn take_failure(&mut self) -> Option<FileFailure> {
-        self.files.files_mut().take_failure()
     }
 }

@@ -5,6 +5,7 @@ pub mod KeepTimes
 pub mod Notices
 pub mod Places
 pub mod Returns
+pub mod Rows
 pub mod Together
 pub mod Unplaced
 pub mod Waiting

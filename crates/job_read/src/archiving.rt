@@ -1,27 +1,27 @@
 //! Records that are read into an archive.
-ghost use Rattle.std.specs.Prelude.{◌≡◌, IfOk, List, None, option_map};
+ghost use Rattle.std.specs.Prelude.{◌≡◌, List, None};
 ghost use Rattle.std.specs.declared.option.Option.{Option};
 ghost use Rattle.continued_files.specs.Lengths.{LengthValue};
 
-use crate::locks::{HeldLock, LookTime};
+use crate::lasting::{Lasting, unlasting};
+use crate::locks::LookTime;
 use crate::moment::Moment;
 use crate::notices::{ErrorTeller, Notice, Teller};
-use crate::returns::LastNumbers;
-use crate::torn::{tell_short, tell_torn};
+use crate::returns::{LastNumbers, Noted};
+use crate::torn::{tell_crowded, tell_short, tell_torn};
 use crate::unplaced::UnplacedCount;
-use continued_files::{ContinuedFiles, FileLength, FolderFault, RecordFiles, Unnamed};
-use disk_files::{ContinuedOutput, DiskFiles, FileFailure, FilePlace, ONE_FILE};
+use continued_files::{ContinuedFiles, FileLength, Unnamed};
+use disk_files::{DiskFiles, FileFailure, FilePlace};
 use files::milliseconds;
 use incidents::{Detail, Incident, Place, Site};
 use job_base::{descriptor_limit, unopened};
-use reader_run::{Gathered, Nowhere, RecordSink, SinkFault};
+use reader_run::{RecordSink, SinkFault};
 use record_archive::{Archive, ArchiveFault, StationCodes, StationLocks, TopFault, lock_stations};
 use sl_io::WriteFault;
 use slreader::{GivenPacket, Want};
 use std::alloc::{AllocError, Global};
 use std::cell::RefCell;
-use std::fs::File;
-use std::io::{self, Write};
+use std::io;
 use std::num::NonZeroUsize;
 
 /// An archive on the disk.
@@ -46,6 +46,8 @@ pub struct ToldArchive<'r> {
     looked: LookTime,
     /// Why the stations are not locked any more.
     unlocked: Option<TopFault>,
+    /// Whether it was told that as many files were made within a minute as may be.
+    is_crowded: bool,
     teller: ErrorTeller<'r>,
     count: UnplacedCount,
     failures: u64,
@@ -113,6 +115,7 @@ pub fn archive_at<'r, 'a: 'r>(
         locks,
         looked: LookTime::new(milliseconds(rt)),
         unlocked: None,
+        is_crowded: false,
         teller: ErrorTeller::new(rt),
         count: UnplacedCount::new(),
         failures: 0,
@@ -185,7 +188,7 @@ pub fn at_archive<'a>(
     }
 }
 
-impl ToldArchive<'_> {
+impl<'r> ToldArchive<'r> {
     /// No more records come: says how many have no place, if more have none than was told, and answers why the last
     /// one could not be added, if that is so.
     pub fn end(&mut self) -> Option<FileFailure> {
@@ -193,7 +196,12 @@ impl ToldArchive<'_> {
         if self.count.is_less(unplaced) {
             self.teller.tell(&Notice::Unplaced(unplaced));
         }
-        self.archive.get_mut().take_failure()
+        self.disk().take_failure()
+    }
+
+    /// Its files on the disk.
+    fn disk(&mut self) -> &mut DiskFiles<'r> {
+        self.archive.get_mut().folders_mut().files_mut()
     }
 
     /// Why the stations are not locked any more, if that ended the reading.
@@ -212,42 +220,61 @@ impl ToldArchive<'_> {
         }
     }
 
-    /// Tells of a torn file, and how many records have no place, if that is due.
-    fn tell(&mut self, unplaced: u64, torn: Option<String>)
+    /// Tells what was found at the last record: a torn file, a file that is shorter than was counted, that as many files
+    /// were made within a minute as may be, and how many records have no place, as far as that is due. After a file that
+    /// was too short a state is to be kept at once.
+    fn tell(&mut self)
         ensures { self.new.failures ≡ self.old.failures }
     {
+        let archive = self.archive.get_mut();
+        let (short, unplaced) = (archive.take_short(), archive.unplaced());
+        let disk = archive.folders_mut().files_mut();
+        let (torn, is_crowded) = (disk.take_torn(), disk.take_crowded());
+        if let Some(file) = short {
+            tell_short(self.rt, FilePlace::Below(self.top), &file);
+            self.moment.hurry();
+        }
         if let Some(path) = torn {
             tell_torn(self.rt, path.as_str());
+        }
+        if is_crowded && !self.is_crowded {
+            self.is_crowded = true;
+            tell_crowded(self.rt);
         }
         if self.count.is_less(unplaced) {
             self.count
                 .tell(unplaced, milliseconds(self.rt), &mut self.teller);
         }
     }
-}
 
-/// Puts a record into an archive, and answers as well how many of its records have no place, and which file was torn.
-/// If the numbers of servers went back, all of each file is tail from then on. If a file was found to be shorter than
-/// was counted, that is told, and a state is to be kept at once.
-#[tactic(auto, unfolding(slreader::specs::Tallies::packet_facts))]
-fn put_to(
-    rt: &HostRuntime,
-    top: &str,
-    archive: &mut DiskArchive<'_>,
-    packet: &GivenPacket<'_>,
-    is_return: bool,
-    moment: &Moment,
-) -> (Result<(), ArchiveFault>, u64, Option<String>) {
-    if is_return {
-        archive.return_to_begin();
+    /// Puts a record. If the numbers of its station don't follow, all of each file of that is tail from then on. If so
+    /// many of its records were added one after the other that none comes any more that stands in a tail, what is left
+    /// of tails is given up.
+    #[tactic(auto, unfolding(slreader::specs::Tallies::packet_facts))]
+    fn put_noted(
+        &mut self,
+        packet: &GivenPacket<'_>,
+        noted: &Option<Noted>,
+    ) -> Result<(), ArchiveFault>
+        ensures { self.new.failures ≡ self.old.failures }
+    {
+        let alloc = self.rt.alloc();
+        let archive = self.archive.get_mut();
+        let (Some(noted), Some(header)) = (noted, packet.header()) else {
+            return archive.put(packet.record(), packet.header());
+        };
+        let (network, station) = (header.network(), header.station());
+        if noted.is_return && archive.return_to_begin(alloc, network, station).is_err() {
+            return Err(ArchiveFault::OutOfMemory);
+        }
+        archive.put(packet.record(), packet.header())?;
+        if self.numbers.count(noted.at, archive.is_passed())
+            && archive.give_up(alloc, network, station).is_err()
+        {
+            return Err(ArchiveFault::OutOfMemory);
+        }
+        Ok(())
     }
-    let put = archive.put(packet.record(), packet.header());
-    if let Some(file) = archive.take_short() {
-        tell_short(rt, FilePlace::Below(top), &file);
-        moment.hurry();
-    }
-    let torn = archive.take_torn();
-    (put, archive.unplaced(), torn)
 }
 
 impl RecordSink for ToldArchive<'_> {
@@ -261,7 +288,7 @@ impl RecordSink for ToldArchive<'_> {
 
     fn begin(&mut self) {
         self.renew_locks();
-        self.archive.get_mut().begin();
+        self.archive.get_mut().folders_mut().files_mut().begin();
     }
 
     fn refuse(&mut self, _want: usize) {}
@@ -271,17 +298,9 @@ impl RecordSink for ToldArchive<'_> {
             self.failures = self.failures.wrapping_add(1);
             return Err(SinkFault::Write);
         }
-        let is_return = self.numbers.note(packet, self.moment.connection());
-        let archive = self.archive.get_mut();
-        let (put, unplaced, torn) = put_to(
-            self.rt,
-            self.top,
-            archive,
-            packet,
-            is_return,
-            self.moment,
-        );
-        self.tell(unplaced, torn);
+        let noted = self.numbers.note(packet, self.moment.connection());
+        let put = self.put_noted(packet, &noted);
+        self.tell();
         match put {
             Ok(()) => Ok(()),
             Err(ArchiveFault::OutOfMemory) => Err(SinkFault::OutOfMemory),
@@ -297,223 +316,6 @@ impl RecordSink for ToldArchive<'_> {
     }
 }
 
-/// One file to which a reader adds each record once, of which it is told if it had a torn end.
-#[derive(Drop)]
-pub struct ToldOutput<'r> {
-    rt: &'r HostRuntime,
-    path: &'r str,
-    output: RefCell<ContinuedOutput<DiskFiles<'r>>>,
-    numbers: LastNumbers,
-    moment: &'r Moment,
-    lock: HeldLock,
-    /// When it was looked last whether the path of the lock still names it.
-    looked: LookTime,
-    /// Why the file is not locked any more.
-    unlocked: Option<io::Error>,
-    failures: u64,
-}
-
-/// The file at a path, in which a reader goes on after what a state says of it. If that says nothing, what stands there
-/// is not handed again.
-pub fn output_at<'r, 'a: 'r>(
-    rt: &'r HostRuntime,
-    path: &'a str,
-    named: Vec<FileLength>,
-    numbers: LastNumbers,
-    moment: &'r Moment,
-    lock: HeldLock,
-) -> ToldOutput<'r> {
-    let files = files_at(rt, FilePlace::At(path), 0, Some(named), Unnamed::Kept);
-    ToldOutput {
-        rt,
-        path,
-        output: RefCell::new(ContinuedOutput::new(files)),
-        numbers,
-        moment,
-        lock,
-        looked: LookTime::new(milliseconds(rt)),
-        unlocked: None,
-        failures: 0,
-    }
-}
-
-impl ToldOutput<'_> {
-    /// What the system says of the last call that failed.
-    pub fn take_reason(&mut self) -> Option<io::Error> {
-        let failure = self.output.get_mut().take_failure()?;
-        Some(failure.reason)
-    }
-
-    /// Why the file is not locked any more, if that ended the reading.
-    pub fn take_unlocked(&mut self) -> Option<io::Error> {
-        self.unlocked.take()
-    }
-
-    /// Looks once a second whether the lock still holds.
-    fn renew_lock(&mut self)
-        ensures { self.new.failures ≡ self.old.failures }
-    {
-        if self.looked.is_due(milliseconds(self.rt)) {
-            if let Err(reason) = self.lock.renew(self.rt) {
-                self.unlocked = Some(reason);
-            }
-        }
-    }
-}
-
-/// Puts the end of a file aside that is no whole record, before records are added to it, and tells that.
-pub fn mend_end<'a>(rt: &HostRuntime, path: &'a str) -> Result<(), Incident<'a>> {
-    let place = FilePlace::At(path);
-    let mut files = DiskFiles::new(rt, rt.alloc(), place, NonZeroUsize::MIN, false);
-    if files.count(ONE_FILE).is_err() {
-        return Err(unopened(path, unlasting(files.take_failure()).reason));
-    }
-    if let Some(path) = files.take_torn() {
-        tell_torn(rt, path.as_str());
-    }
-    Ok(())
-}
-
-/// A file to which records are added. After a write that failed it is cut to whole records.
-#[derive(Drop)]
-pub struct WholeFile {
-    file: File,
-}
-
-impl WholeFile {
-    /// A file that ends with a whole record.
-    pub fn new(file: File) -> WholeFile {
-        WholeFile { file }
-    }
-
-    /// Cuts off what is no whole record, if it is a plain file and the system can.
-    fn cut_to_whole(&self) {
-        if let Ok(metadata) = self.file.metadata() {
-            let length = metadata.len();
-            if metadata.is_file() {
-                let _ = self.file.set_len(length - length % 512);
-            }
-        }
-    }
-}
-
-impl Write for WholeFile {
-    fn write(&mut self, bytes: &[u8]) -> io::Result<usize> {
-        match self.file.write(bytes) {
-            Ok(count) => Ok(count),
-            Err(reason) => {
-                self.cut_to_whole();
-                Err(reason)
-            }
-        }
-    }
-
-    fn flush(&mut self) -> io::Result<()> {
-        self.file.flush()
-    }
-}
-
-/// Puts a record into a file, as into an archive, and answers as well whether that was torn.
-fn put_one(
-    rt: &HostRuntime,
-    path: &str,
-    output: &mut ContinuedOutput<DiskFiles<'_>>,
-    packet: &GivenPacket<'_>,
-    is_return: bool,
-    moment: &Moment,
-) -> (Result<(), FolderFault>, Option<String>) {
-    if is_return {
-        output.return_to_begin();
-    }
-    let put = output.put(packet.record());
-    if let Some(file) = output.take_short() {
-        tell_short(rt, FilePlace::At(path), &file);
-        moment.hurry();
-    }
-    let torn = output.take_torn();
-    (put, torn)
-}
-
-impl RecordSink for ToldOutput<'_> {
-    ghost written = { λ _. None };
-
-    ghost Waits = { λ _ _. Unit {0} };
-
-    ghost failures = { λ o. o.failures };
-
-    ghost empty_writes = { λ _. 0 };
-
-    fn begin(&mut self) {
-        self.renew_lock();
-        self.output.get_mut().begin();
-    }
-
-    fn refuse(&mut self, _want: usize) {}
-
-    fn put(&mut self, packet: &GivenPacket<'_>) -> Result<(), SinkFault> {
-        if self.unlocked.is_some() {
-            self.failures = self.failures.wrapping_add(1);
-            return Err(SinkFault::Write);
-        }
-        let is_return = self.numbers.note(packet, self.moment.connection());
-        let output = self.output.get_mut();
-        let (put, torn) = put_one(self.rt, self.path, output, packet, is_return, self.moment);
-        if let Some(path) = torn {
-            tell_torn(self.rt, path.as_str());
-        }
-        match put {
-            Ok(()) => Ok(()),
-            Err(FolderFault) => {
-                self.failures = self.failures.wrapping_add(1);
-                Err(SinkFault::Write)
-            }
-        }
-    }
-
-    fn hand_on(&mut self) -> Result<(), WriteFault> {
-        Ok(())
-    }
-}
-
-/// Where records are written, as far as they can be made to last there.
-pub trait Lasting {
-    // These lengths are those of the files once all is made to last.
-    ghost Lasts: { Self → Option (List LengthValue) → Type 0 };
-
-    /// Makes all records last that were written so far, and then tells how many records of each file don't come again;
-    /// None where no files are written.
-    fn make_last(&self) -> Result<Option<Vec<FileLength>>, FileFailure>
-        ensures { IfOk result (λ lengths. Lasts self.now (option_map (λ fs. fs.items) lengths)) };
-}
-
-impl Lasting for Nowhere {
-    ghost Lasts = { λ _ lengths. lengths ≡ None };
-
-    fn make_last(&self) -> Result<Option<Vec<FileLength>>, FileFailure> {
-        Ok(None)
-    }
-}
-
-/// What was written has been handed on.
-impl<S> Lasting for Gathered<S> {
-    ghost Lasts = { λ _ lengths. lengths ≡ None };
-
-    fn make_last(&self) -> Result<Option<Vec<FileLength>>, FileFailure> {
-        Ok(None)
-    }
-}
-
-/// What is said of something that could not be made to last, if the system says nothing.
-fn unlasting(failure: Option<FileFailure>) -> FileFailure {
-    match failure {
-        Some(failure) => failure,
-        None => FileFailure {
-            path: None,
-            reason: io::Error::from(io::ErrorKind::Other),
-        },
-    }
-}
-
 impl Lasting for ToldArchive<'_> {
     ghost Lasts = { λ _ _. Unit {0} };
 
@@ -523,21 +325,7 @@ impl Lasting for ToldArchive<'_> {
         };
         match archive.last() {
             Ok(lengths) => Ok(Some(lengths)),
-            Err(_) => Err(unlasting(archive.take_failure())),
-        }
-    }
-}
-
-impl Lasting for ToldOutput<'_> {
-    ghost Lasts = { λ _ _. Unit {0} };
-
-    fn make_last(&self) -> Result<Option<Vec<FileLength>>, FileFailure> {
-        let Ok(mut output) = self.output.try_borrow_mut() else {
-            return Err(unlasting(None));
-        };
-        match output.last() {
-            Ok(lengths) => Ok(Some(lengths)),
-            Err(_) => Err(unlasting(output.take_failure())),
+            Err(_) => Err(unlasting(archive.folders_mut().files_mut().take_failure())),
         }
     }
 }

@@ -2,8 +2,8 @@
 //! jump in the numbers of one.
 ghost use Rattle.std.specs.Prelude.{◌≡◌};
 
-use crate::archiving::Lasting;
 use crate::hearing::Listener;
+use crate::lasting::Lasting;
 use crate::notices::{ErrorTeller, Notice, Teller};
 use crate::reading::Reading;
 use continued_files::FileLength;

@@ -2,6 +2,7 @@
 //! go, and the file that says how far a reader is. It does not know how a server is spoken with, nor what a line says.
 #![tactic(auto)]
 
+mod adding;
 mod archiving;
 mod asking;
 mod connections;
@@ -13,6 +14,7 @@ mod hearing;
 mod inlet;
 mod jumps;
 mod keep_time;
+mod lasting;
 mod locks;
 mod moment;
 mod notices;
@@ -21,6 +23,7 @@ mod patience;
 mod places;
 mod reading;
 mod returns;
+mod rows;
 mod sides;
 mod states;
 mod together;

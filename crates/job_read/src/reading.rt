@@ -2,7 +2,8 @@
 ghost use Rattle.std.specs.Prelude.{◌≡◌, is_some};
 ghost use Rattle.job_read.specs.Asking.{is_told};
 
-use crate::archiving::{Lasting, WholeFile, archive_at, at_archive, mend_end, output_at, unlocked};
+use crate::adding::{WholeFile, mend_end, output_at};
+use crate::archiving::{archive_at, at_archive, unlocked};
 use crate::asking::Renewal;
 use crate::connections::ServersInTurn;
 use crate::endings::{TransferFault, goes_on};
@@ -10,6 +11,7 @@ use crate::following::follow_with;
 use crate::heard_records::HeardRecords;
 use crate::hearing::Listener;
 use crate::inlet::Inlet;
+use crate::lasting::Lasting;
 use crate::moment::Moment;
 use crate::patience::{Patience, pause, silence_between, time_limit};
 use crate::places::Places;

@@ -3,9 +3,10 @@ ghost use Rattle.std.specs.Prelude.{◌≡◌, IfOk, None, OnOk, option_map};
 ghost use Rattle.sl_io.specs.Counts.{CountsFailure};
 ghost use Rattle.protocol.specs.declared.reason.Reason.TheVariants.{State};
 
-use crate::archiving::{Lasting, site_at, site_of};
+use crate::archiving::{site_at, site_of};
 use crate::inlet::Inlet;
 use crate::keep_time::{EVERY, KeepTime, keep_time};
+use crate::lasting::Lasting;
 use crate::locks::HeldLock;
 use crate::moment::Moment;
 use crate::patience::Patience;

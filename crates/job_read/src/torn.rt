@@ -1,5 +1,5 @@
-//! What is told of a file that ended inside a record or has fewer records than were counted, and of a state with several
-//! lines of one station.
+//! What is told of a file that ended inside a record or has fewer records than were counted, of many files that are made
+//! within a minute, and of a state with several lines of one station.
 use continued_files::ShortFile;
 use disk_files::FilePlace;
 use shown_lines::ShownLine;
@@ -66,6 +66,13 @@ pub fn tell_short(rt: &HostRuntime, place: FilePlace<'_>, file: &ShortFile) {
             count,
             kept
         }
+    );
+}
+
+/// Tells that as many files were made within a minute as may be.
+pub fn tell_crowded(rt: &HostRuntime) {
+    let _ = eprintln!(rt;
+        "seedlinkd: 4096 files were made within a minute; the next one waits until that is over"
     );
 }
 

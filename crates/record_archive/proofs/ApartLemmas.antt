@@ -1,16 +1,20 @@
 -- Records of two streams are never put into one file: the path of a file says of which stream it is.
 use Rattle.std.proofs.Common.{◌≡◌, ◌≢◌, ◌∙◌, ◌+◌, ◌/◌, ◌%◌, ℕ, List, [], ◌∷◌, ◌++◌, Bool, true, false, ap, arith, refl}
-use Rattle.std.proofs.Common.{append_assoc, length, not, suc, sym, zero}
-use Rattle.std.specs.Prelude.{◌&&◌, ◌==◌, if◌then◌else◌, nat_lt}
+use Rattle.std.proofs.Common.{append_assoc, ◌-◌, drop, length, min, not, suc, sym, take, zero}
+use Rattle.std.specs.Prelude.{◌&&◌, ◌==◌, if◌then◌else◌, nat_eq, nat_lt, slice_range}
 use Rattle.std.specs.List.{list_all}
 use Rattle.std.proofs.lemmas.List.{append_cancel_left, append_cancel_right}
+use Rattle.std.proofs.lemmas.Bool.Decides.{Decides-eqb}
 use Rattle.std.proofs.lemmas.List.{length-append}
+use Rattle.std.proofs.Math.Seq.{take-length}
+use Rattle.std.proofs.lemmas.Slice.Eq.{starts_is}
 use Rattle.std.proofs.lemmas.Bool.Decides.{nat_tests}
 use Rattle.protocol.specs.Record.{Facts, trimmed}
 use Rattle.protocol.specs.declared.record.Kind.{Kind}
 use Rattle.protocol.specs.declared.record.Kind.TheVariants.{D, E, C, O, T, L}
 use Rattle.record_check.specs.Listing.{kind_letter}
-use Rattle.record_archive.specs.Apart.{ArePutApart, IsSameStream, path_in}
+use Rattle.record_archive.specs.Apart.{AreBelowTheirStation, ArePutApart, IsSameStream, is_below, path_in}
+use Rattle.record_archive.specs.Apart.{station_folders}
 use Rattle.record_archive.specs.Paths.{channel_text, codes_text, file_text, folder_text, four_digits, has_place}
 use Rattle.record_archive.specs.Paths.{is_name, is_name_byte, is_reserved, last_digit, three_digits, with_mark}
 
@@ -224,3 +228,59 @@ put-apart = λ x y year day year' day' px py e.
           (kind_letter y.kind ∷ []) refl p.channel);
       kind = letter-same x.kind y.kind (head-same (kind_letter x.kind) (kind_letter y.kind) [] [] kinds);
     }
+
+-- ---- the folders of a station
+
+-- a path after its year
+after-four : (a b c d : ℕ) (rest : List ℕ) (n size : ℕ) → n ≡ 4 → size ≡ length rest + 4
+    → slice_range (a ∷ b ∷ c ∷ d ∷ rest) n size ≡ rest
+after-four a b c d rest n size four is =
+    let left : (length rest + 4) - 4 ≡ length rest = omega arith in
+    ap (λ k. slice_range (a ∷ b ∷ c ∷ d ∷ rest) k size) four
+    ∙ ap (λ k. slice_range (a ∷ b ∷ c ∷ d ∷ rest) 4 k) is ∙ ap (λ k. take k rest) left ∙ take-length rest
+
+below-rest : (a b c d : ℕ) (rest path : List ℕ) → path ≡ a ∷ b ∷ c ∷ d ∷ rest
+    → slice_range path (min 4 (length path)) (length path) ≡ rest
+below-rest a b c d rest path is =
+    let size : length path ≡ length rest + 4 =
+    let here : length (a ∷ b ∷ c ∷ d ∷ rest) ≡ length rest + 4 = omega arith in ap length is ∙ here in
+    let four : min 4 (length path) ≡ 4 = grind (arith, nat_tests, size) in
+    ap (λ p. slice_range p (min 4 (length path)) (length path)) is
+    ∙ after-four a b c d rest (min 4 (length path)) (length path) four size
+
+folders-parts : (n s : List ℕ) → station_folders n s ≡ 47 ∷ (n ++ 47 ∷ (s ++ 47 ∷ []))
+folders-parts n s = simp append_assoc
+
+-- what comes after the folders of a station
+folders-rest : (n s more : List ℕ) → station_folders n s ++ more ≡ 47 ∷ (n ++ 47 ∷ (s ++ 47 ∷ more))
+folders-rest n s more = simp append_assoc
+
+path-rest : (x : Facts) (year day : ℕ)
+    → slice_range (path_in year day x) (min 4 (length (path_in year day x))) (length (path_in year day x))
+    ≡ 47 ∷ (x.network ++ 47 ∷ (x.station ++ 47 ∷ (channel_text x ++ 47 ∷ file_text year day x)))
+path-rest x year day =
+    below-rest (last_digit (year / 1000)) (last_digit (year / 100)) (last_digit (year / 10)) (last_digit year)
+    (47 ∷ (x.network ++ 47 ∷ (x.station ++ 47 ∷ (channel_text x ++ 47 ∷ file_text year day x)))) (path_in year day x)
+    (folder-parts (four_digits year) x.network x.station (channel_text x) (file_text year day x))
+
+pub below-station : AreBelowTheirStation
+below-station = λ x y year day px py.
+    let rest = 47 ∷ (x.network ++ 47 ∷ (x.station ++ 47 ∷ (channel_text x ++ 47 ∷ file_text year day x))) in
+    let text = station_folders y.network y.station in
+    let here = slice_range (path_in year day x) (min 4 (length (path_in year day x))) (length (path_in year day x)) in
+    let are = starts_is Decides-eqb here text (is_below y.network y.station (path_in year day x)) refl in
+    let one = placed x px in
+    let two = placed y py in (
+      (λ is.
+          let split : rest ≡ text ++ drop (length text) here = sym (path-rest x year day) ∙ are.0 is in
+          let parts = tail-same 47 47 _ _ (split ∙ folders-rest y.network y.station (drop (length text) here)) in
+          let networks = cut x.network y.network _ _ one.network two.network parts in
+          let stations = cut x.station y.station _ _ one.station two.station networks.1 in
+          (networks.0, stations.0)),
+      (λ same.
+          are.1 (channel_text x ++ 47 ∷ file_text year day x)
+          (path-rest x year day
+          ∙ ap (λ n. 47 ∷ (n ++ 47 ∷ (x.station ++ 47 ∷ (channel_text x ++ 47 ∷ file_text year day x)))) same.0
+          ∙ ap (λ s. 47 ∷ (y.network ++ 47 ∷ (s ++ 47 ∷ (channel_text x ++ 47 ∷ file_text year day x)))) same.1
+          ∙ sym (folders-rest y.network y.station (channel_text x ++ 47 ∷ file_text year day x)))),
+    )

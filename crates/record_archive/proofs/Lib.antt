@@ -1,3 +1,4 @@
 mod PlaceLemmas
 mod PutLemmas
 mod ApartLemmas
+mod StepLemmas

@@ -3,25 +3,25 @@
 //! Files of an archive are put on the disk only for a state. Without one the system does it when it likes. With one
 //! each file that was added to has to be: those that are kept open when the state is written, each once, and those that
 //! were let go before, when that was.
-ghost use Rattle.std.specs.Prelude.{◌≡◌, ◌∷◌, [], ℕ, IfOk, List, OnErr, OnOk};
+ghost use Rattle.std.specs.Prelude.{◌≡◌, ◌∷◌, [], ℕ, IfOk, List, OnErr, OnOk, false, true};
 ghost use Rattle.std.specs.Str.{IsUtf8};
 ghost use Rattle.std.specs.Result.{result_ok};
 ghost use Rattle.protocol.specs.Record.{header_of};
 ghost use Rattle.continued_files.specs.Files.{MakesSafe};
-ghost use Rattle.continued_files.specs.Known.{kept_by, known_at, length_of, length_told, tail_before};
-ghost use Rattle.continued_files.specs.Runs.{Moment, Numbers, after_return};
-ghost use Rattle.continued_files.specs.Steps.{IsAt, SyncsStep, files_value};
+ghost use Rattle.continued_files.specs.Known.{GivesUpOf, kept_by, known_at, length_of, length_told, tail_before};
+ghost use Rattle.continued_files.specs.Steps.{GivesUpStep, ReturnsStep, SyncsStep, files_value};
 ghost use Rattle.continued_files.specs.Tails.{all_from};
+ghost use Rattle.record_archive.specs.Apart.{is_below};
 ghost use Rattle.record_archive.specs.Archives.{CountsUnplaced, Fails, HoldsMore, Places};
 
 use crate::folders::Folders;
+use crate::path::{below, station_folders};
 use crate::placing::{ArchiveFault, Placed, put_record};
 use crate::stations::StationCodes;
 use crate::streams::KnownStreams;
 use continued_files::{ContinuedFiles, FileLength, FolderFault, RecordFiles, ShortFile};
-use disk_files::{DiskFiles, FileFailure};
 use mseed_header::Header;
-use std::alloc::Global;
+use std::alloc::{AllocError, Global};
 
 /// An archive of some stations in folders. A record is put into its file if it is of one of the stations. Memory is
 /// taken only for streams of which no record came before, or none of that day.
@@ -50,6 +50,13 @@ impl<F: Folders> Archive<F> {
         ensures { result.now ≡ self.now.folders }
     {
         &self.folders
+    }
+
+    /// Its folders, for calls that not all folders have.
+    pub fn folders_mut(&mut self) -> &mut F
+        ensures { result.now ≡ self.old.folders }
+    {
+        &mut self.folders
     }
 
     /// Its folders, once no more records come.
@@ -106,19 +113,61 @@ impl<F: RecordFiles> Archive<ContinuedFiles<F>> {
         self.folders.last()
     }
 
-    /// The numbers of a server went back: from now on all of each file is tail.
-    pub fn return_to_begin(&mut self)
-        ensures tails { (name : List ℕ) (count : ℕ) → tail_before (known_at self.new.folders.all name)
-            (kept_by (length_of self.new.folders.named.items name) self.new.folders.unnamed count) count
-            ≡ all_from 0 count }
-        ensures step { (m : Moment) (name : List ℕ) (comes : Numbers) → IsAt (files_value (F.records self.old.folders.files) (F.safe self.old.folders.files)
-            self.old.folders.all self.old.folders.named.items self.old.folders.unnamed) name m
-            → IsAt (files_value (F.records self.new.folders.files) (F.safe self.new.folders.files)
-            self.new.folders.all self.new.folders.named.items self.new.folders.unnamed) name (after_return m comes) }
+    /// The numbers of a station went back: from now on all of each file is tail into which records of it are put. If it
+    /// fails, nothing changes.
+    pub fn return_to_begin(
+        &mut self,
+        alloc: Global,
+        network: &[u8],
+        station: &[u8],
+    ) -> Result<(), AllocError>
+        ensures tails { OnOk result ((name : List ℕ) (count : ℕ) → is_below network.now station.now name ≡ true
+            → tail_before (known_at self.new.folders.all name) (kept_by (length_of self.new.folders.named.items name)
+            self.new.folders.unnamed count) count ≡ all_from 0 count) }
+        ensures others { OnOk result ((name : List ℕ) → is_below network.now station.now name ≡ false
+            → (known_at self.new.folders.all name ≡ known_at self.old.folders.all name)
+            × (length_of self.new.folders.named.items name ≡ length_of self.old.folders.named.items name)) }
+        ensures step { OnOk result (ReturnsStep (files_value (F.records self.old.folders.files) (F.safe self.old.folders.files)
+            self.old.folders.all self.old.folders.named.items self.old.folders.unnamed)
+            (files_value (F.records self.new.folders.files) (F.safe self.new.folders.files)
+            self.new.folders.all self.new.folders.named.items self.new.folders.unnamed) (is_below network.now station.now)) }
         ensures same { (self.new.folders.files ≡ self.old.folders.files) × (self.new.streams ≡ self.old.streams)
             × (self.new.unplaced ≡ self.old.unplaced) }
+        ensures refused { OnErr result (self.new ≡ self.old) }
     {
-        self.folders.return_to_begin();
+        let text = station_folders(alloc, network, station)?;
+        self.folders.return_to_begin(&below(&text));
+        Ok(())
+    }
+
+    /// No record of a station comes any more that stands in what is left of the tails of its files: that is given up. If
+    /// it fails, nothing changes.
+    pub fn give_up(
+        &mut self,
+        alloc: Global,
+        network: &[u8],
+        station: &[u8],
+    ) -> Result<(), AllocError>
+        ensures tails { OnOk result
+            (GivesUpOf (is_below network.now station.now) self.old.folders.all self.new.folders.all) }
+        ensures step { OnOk result (GivesUpStep (files_value (F.records self.old.folders.files) (F.safe self.old.folders.files)
+            self.old.folders.all self.old.folders.named.items self.old.folders.unnamed)
+            (files_value (F.records self.new.folders.files) (F.safe self.new.folders.files)
+            self.new.folders.all self.new.folders.named.items self.new.folders.unnamed) (is_below network.now station.now)) }
+        ensures same { (self.new.folders.files ≡ self.old.folders.files) × (self.new.streams ≡ self.old.streams)
+            × (self.new.unplaced ≡ self.old.unplaced) }
+        ensures refused { OnErr result (self.new ≡ self.old) }
+    {
+        let text = station_folders(alloc, network, station)?;
+        self.folders.give_up(&below(&text));
+        Ok(())
+    }
+
+    /// Whether the record that was put last into a file stood in what an earlier reader left, and so was passed over.
+    pub fn is_passed(&self) -> bool
+        ensures { result ≡ self.now.folders.is_passed }
+    {
+        self.folders.is_passed()
     }
 
     /// A file that had fewer records than were counted, once: then a state is to be kept at once.
@@ -127,22 +176,5 @@ impl<F: RecordFiles> Archive<ContinuedFiles<F>> {
             × (self.new.unplaced ≡ self.old.unplaced) }
     {
         self.folders.take_short()
-    }
-}
-
-impl Archive<ContinuedFiles<DiskFiles<'_>>> {
-    /// Records of another piece come next. Of each file it is looked then whether its path still names it.
-    pub fn begin(&mut self) {
-        self.folders.files_mut().begin();
-    }
-
-    /// The path of a file whose torn end was put aside, once.
-    pub fn take_torn(&mut self) -> Option<String> {
-        self.folders.files_mut().take_torn()
-    }
-
-    /// What the system says of the last call that failed, once.
-    pub fn take_failure(&mut self) -> Option<FileFailure> {
-        self.folders.files_mut().take_failure()
     }
 }

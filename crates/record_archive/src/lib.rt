@@ -16,7 +16,7 @@ mod streams;
 
 pub use archive::Archive;
 pub use folders::Folders;
-pub use law::are_put_apart;
+pub use law::{are_below_their_station, are_put_apart};
 pub use locks::{StationLocks, TopFault, lock_stations};
 pub use memory_folders::{MemoryFolders, Stored};
 pub use place::Place;

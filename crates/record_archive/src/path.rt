@@ -1,14 +1,16 @@
 //! The place of a record in an archive.
-ghost use Rattle.std.specs.Prelude.{◌≡◌, ◌≤◌, ◌++◌, ◌∷◌, [], OnOk};
+ghost use Rattle.std.specs.Prelude.{◌≡◌, ◌≤◌, ◌++◌, ◌∷◌, [], IfOk, OnOk};
 ghost use Rattle.std.specs.List.{list_all};
 ghost use Rattle.protocol.specs.Record.{trimmed};
+ghost use Rattle.record_archive.specs.Apart.{station_folders};
 ghost use Rattle.record_archive.specs.Paths.{channel_text, codes_text, file_text, folder_text, four_digits, has_place};
 ghost use Rattle.record_archive.specs.Paths.{is_name, is_name_byte, is_reserved, last_digit, three_digits, with_mark};
 
+use continued_files::FileNames;
 use mseed_header::{Header, trimmed};
 use record_check::kind_letter;
 use sl_time::DayOfYear;
-use std::alloc::AllocError;
+use std::alloc::{AllocError, Global};
 
 /// Whether a byte may stand in the name of a folder or file: one that prints, but `/`.
 fn is_name_byte(byte: u8) -> bool
@@ -141,4 +143,29 @@ pub(crate) fn put_file(
     put_codes(text, header)?;
     put_year(text, day.year, b'.')?;
     put_day(text, day.day)
+}
+
+/// The folders of a station, as they stand in a path after its year.
+pub(crate) fn station_folders(
+    alloc: Global,
+    network: &[u8],
+    station: &[u8],
+) -> Result<Vec<u8>, AllocError>
+    ensures { IfOk result (λ text. text.items ≡ station_folders network.now station.now) }
+{
+    let mut text = Vec::new(alloc);
+    text.push(b'/')?;
+    put_with(&mut text, network, b'/')?;
+    put_with(&mut text, station, b'/')?;
+    Ok(text)
+}
+
+/// The files in folders of a station, of whatever year.
+pub(crate) fn below(folders: &[u8]) -> FileNames<'_>
+    ensures { (result.after ≡ 4) × (result.text.now ≡ folders.now) }
+{
+    FileNames {
+        after: 4,
+        text: folders,
+    }
 }

@@ -17,10 +17,7 @@ returns-clause-step g c =
       safe = subst (λ f. MakesSafe (g.F.RecordFiles.records f) (g.F.RecordFiles.safe f)) (sym same)
           c.in_ok-sync.ensures.safe;
       left = λ name count place low is.
-          elim (c.settle.ensures.left name count place low is) [
-            | inl stays ↦ inl (c.forget.ensures.left name count place low stays)
-            | inr given ↦ inr given
-          ];
+          c.forget.ensures.left name count place low (c.settle.ensures.left name count place low is);
       indexed = λ name rs index counted.
           let mid = c.settle.ensures.indexed name rs index counted in
           c.forget.ensures.indexed name rs mid.0 mid.1;

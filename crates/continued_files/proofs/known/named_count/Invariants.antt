@@ -1,6 +1,6 @@
 use Rattle.std.proofs.Common.{◌≡◌, drop}
 use Rattle.continued_files.specs.Known.{length_of}
-use Rattle.continued_files.proofs.continued.named_count.Given as goal
+use Rattle.continued_files.proofs.known.named_count.Given as goal
 
 -- The first of those that are left is the first of all.
 abbrev pub invariant-loop-length : goal.invariant-loop-length

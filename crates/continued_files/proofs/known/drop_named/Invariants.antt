@@ -1,6 +1,6 @@
 use Rattle.std.proofs.Common.{◌≡◌, ◌≢◌, ◌≤◌, ℕ, List, None, drop, length}
 use Rattle.continued_files.specs.Known.{length_of}
-use Rattle.continued_files.proofs.continued.drop_named.Given as goal
+use Rattle.continued_files.proofs.known.drop_named.Given as goal
 
 -- Other files are named as they were, and this one not from the place on.
 abbrev pub invariant-loop-at : goal.invariant-loop-at

@@ -3,7 +3,7 @@ use Rattle.std.proofs.lemmas.Slice.Eq.{bytes_eq-Decides}
 use Rattle.continued_files.specs.Known.{length_of}
 use Rattle.continued_files.specs.Lengths.{LengthValue}
 use Rattle.continued_files.proofs.KnownLemmas.{dropped-none, dropped-others}
-use Rattle.continued_files.proofs.continued.drop_named.Goals as goal
+use Rattle.continued_files.proofs.known.drop_named.Goals as goal
 
 pub loop-at-preserved-then-eq : goal.loop-at-preserved-then-eq
 loop-at-preserved-then-eq c =
