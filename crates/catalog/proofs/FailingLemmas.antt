@@ -58,22 +58,23 @@ two_as_one (Ok x) all first rest same = same x
 two_as_one (Err e) all first rest same = refl
 
 -- stations that are read in two parts
-read_then : (earlier : List Entry) (ds more : List Data)
-    → stations_read earlier (ds ++ more) ≡ (stations_read earlier ds >>= (λ es. stations_read es more))
-read_then earlier [] more = refl
-read_then earlier (d ∷ ds) more =
-    two_as_one (station_of earlier d) (λ e. stations_read (earlier ++ e ∷ []) (ds ++ more))
-    (λ e. stations_read (earlier ++ e ∷ []) ds) (λ es. stations_read es more)
-    (λ e. read_then (earlier ++ e ∷ []) ds more)
+read_then : (groups : Option Members) (earlier : List Entry) (ds more : List Data)
+    → stations_read groups earlier (ds ++ more)
+    ≡ (stations_read groups earlier ds >>= (λ es. stations_read groups es more))
+read_then groups earlier [] more = refl
+read_then groups earlier (d ∷ ds) more =
+    two_as_one (station_of groups earlier d) (λ e. stations_read groups (earlier ++ e ∷ []) (ds ++ more))
+    (λ e. stations_read groups (earlier ++ e ∷ []) ds) (λ es. stations_read groups es more)
+    (λ e. read_then groups (earlier ++ e ∷ []) ds more)
 
 -- one more is read
-pub read_next : (ds : List Data) (i : ℕ) (d : Data) (earlier : List Entry) → i < length ds → d ≡ get_or ds i d
-    → stations_read [] (take i ds) ≡ Ok earlier
-    → stations_read [] (take (i + 1) ds) ≡ (station_of earlier d >>= (λ e. Ok (earlier ++ e ∷ [])))
-read_next ds i d earlier inside item before =
-    ap (stations_read []) (take_more ds i d inside ∙ ap (λ x. take i ds ++ x ∷ []) (sym item))
-    ∙ read_then [] (take i ds) (d ∷ [])
-    ∙ ap (λ (r : Result (List Entry) ConfigFault). r >>= (λ es. stations_read es (d ∷ []))) before
+pub read_next : (groups : Option Members) (ds : List Data) (i : ℕ) (d : Data) (earlier : List Entry) → i < length ds → d ≡ get_or ds i d
+    → stations_read groups [] (take i ds) ≡ Ok earlier
+    → stations_read groups [] (take (i + 1) ds) ≡ (station_of groups earlier d >>= (λ e. Ok (earlier ++ e ∷ [])))
+read_next groups ds i d earlier inside item before =
+    ap (stations_read groups []) (take_more ds i d inside ∙ ap (λ x. take i ds ++ x ∷ []) (sym item))
+    ∙ read_then groups [] (take i ds) (d ∷ [])
+    ∙ ap (λ (r : Result (List Entry) ConfigFault). r >>= (λ es. stations_read groups es (d ∷ []))) before
 
 -- a value among those that describe the stations, as data
 pub value_item : (values : List Value) (i : ℕ) (value : Value) → i < length values → value ≡ get_or values i value
@@ -85,31 +86,32 @@ value_item values i value inside item =
     (subst (λ n. i < n) (sym size) inside, ap view item ∙ sym at)
 
 -- the station at a place fails first, and the error says so
-pub fails_at_place : (values : List Value) (i : ℕ) (value : Value) (earlier : List Entry) (e : ConfigError) (s : Step)
+pub fails_at_place : (groups : Option Members) (values : List Value) (i : ℕ) (value : Value) (earlier : List Entry)
+    (e : ConfigError) (s : Step)
     → i < length values → value ≡ get_or values i value
-    → stations_read [] (take i (map view values)) ≡ Ok earlier → length earlier ≡ i
-    → FailsWithin (length earlier) earlier (table_in (view value)) e
-    → FailsAtStep (length earlier) earlier (table_in (view value)) e s
-    → station_of earlier (view value) ≡ Err e.fault → FailsAmong (map view values) e s
-fails_at_place values i value earlier e (step.Station p s) inside item before size within at failed =
+    → stations_read groups [] (take i (map view values)) ≡ Ok earlier → length earlier ≡ i
+    → FailsWithin groups (length earlier) earlier (table_in (view value)) e
+    → FailsAtStep groups (length earlier) earlier (table_in (view value)) e s
+    → station_of groups earlier (view value) ≡ Err e.fault → FailsAmong groups (map view values) e s
+fails_at_place groups values i value earlier e (step.Station p s) inside item before size within at failed =
     let there = value_item values i value inside item in
     let place : i ≡ p = sym size ∙ sym at.0 in
-    subst (FailsAtPlace (map view values) e) place
+    subst (FailsAtPlace groups (map view values) e) place
     (record {
       earlier = earlier;
       value = view value;
       before = before;
       there = slice_get-get_or (map view values) i (view value) there.0 ∙ ap Some (sym there.1);
-      first = subst (λ n. FailsWithin n earlier (table_in (view value)) e) size within;
+      first = subst (λ n. FailsWithin groups n earlier (table_in (view value)) e) size within;
       fails =
-          read_next (map view values) i (view value) earlier there.0 there.1 before
-          ∙ stops (station_of earlier (view value)) _ e.fault failed;
+          read_next groups (map view values) i (view value) earlier there.0 there.1 before
+          ∙ stops (station_of groups earlier (view value)) _ e.fault failed;
     })
-fails_at_place values i value earlier e step.Text inside item before size within at failed = elim at [ ]
-fails_at_place values i value earlier e step.Title inside item before size within at failed = elim at [ ]
-fails_at_place values i value earlier e step.Access inside item before size within at failed = elim at [ ]
-fails_at_place values i value earlier e step.MaxConnections inside item before size within at failed = elim at [ ]
-fails_at_place values i value earlier e step.Stations inside item before size within at failed = elim at [ ]
+fails_at_place groups values i value earlier e step.Text inside item before size within at failed = elim at [ ]
+fails_at_place groups values i value earlier e step.Title inside item before size within at failed = elim at [ ]
+fails_at_place groups values i value earlier e step.Access inside item before size within at failed = elim at [ ]
+fails_at_place groups values i value earlier e step.MaxConnections inside item before size within at failed = elim at [ ]
+fails_at_place groups values i value earlier e step.Stations inside item before size within at failed = elim at [ ]
 
 -- a repeated station is refused
 repeated_fails : (earlier : List Entry) (entry : Entry) → is_repeated earlier entry.station ≡ true
@@ -117,17 +119,18 @@ repeated_fails : (earlier : List Entry) (entry : Entry) → is_repeated earlier 
 repeated_fails earlier entry h = rw h refl
 
 -- a station whose keys are read, and whose codes an earlier one has
-pub repeated_first : (earlier : List Entry) (table : Result Members ConfigFault) (m : Members) (entry : Entry)
-    (place : ℕ) (e : ConfigError) → table ≡ Ok m → first_fault (key_fault m) key_steps ≡ None → entry_of m ≡ Ok entry
+pub repeated_first : (groups : Option Members) (earlier : List Entry) (table : Result Members ConfigFault) (m : Members) (entry : Entry)
+    (place : ℕ) (e : ConfigError) → table ≡ Ok m → first_fault (key_fault groups m) key_steps ≡ None
+    → entry_of groups m ≡ Ok entry
     → network_of m ≡ Ok entry.station.network → code_of m ≡ Ok entry.station.code
     → is_repeated earlier entry.station ≡ true → e.fault ≡ Duplicate → e.step ≡ step.Station place Codes
     → option_map (λ text. text.items) e.network ≡ Some entry.station.network
-    → option_map (λ text. text.items) e.code ≡ Some entry.station.code → FailsWithin place earlier table e
-repeated_first earlier table m entry place e is none read network code again fault at net cod =
-    let fails = goes_on (entry_of m) (not_repeated earlier) entry read ∙ repeated_fails earlier entry again
+    → option_map (λ text. text.items) e.code ≡ Some entry.station.code → FailsWithin groups place earlier table e
+repeated_first groups earlier table m entry place e is none read network code again fault at net cod =
+    let fails = goes_on (entry_of groups m) (not_repeated earlier) entry read ∙ repeated_fails earlier entry again
     ∙ ap Err (sym fault) in
-    let first = first_past (fault_at earlier (Ok m)) key_steps (Codes ∷ []) none
+    let first = first_past (fault_at groups earlier (Ok m)) key_steps (Codes ∷ []) none
     ∙ ap (λ r. fault_or Codes (result_err r) None) fails in
-    subst (FailsAtStep place earlier table e) (sym at)
-    (subst (λ t. FailsAtStep place earlier t e (step.Station place Codes)) (sym is)
+    subst (FailsAtStep groups place earlier table e) (sym at)
+    (subst (λ t. FailsAtStep groups place earlier t e (step.Station place Codes)) (sym is)
     (refl, (first, net ∙ sym (value_read _ _ network), cod ∙ sym (value_read _ _ code))))

@@ -2,6 +2,7 @@ mod DistinctLemmas
 mod ElementLemmas
 mod FailingLemmas
 mod FindLemmas
+mod GroupLemmas
 mod IndexLemmas
 mod OrderLemmas
 mod ReadLemmas

@@ -2,6 +2,7 @@ pub mod Changes
 pub mod Failing
 pub mod Faults
 pub mod Finding
+pub mod Groups
 pub mod Indexing
 pub mod Keys
 pub mod Numbers

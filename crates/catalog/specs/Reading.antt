@@ -6,6 +6,7 @@ use Rattle.std.specs.Prelude.{None, Result, Ok, Err, codes}
 use Rattle.std.specs.List.{list_all, list_any}
 use Rattle.toml.specs.Data.{Data, Members, as_table}
 use Rattle.protocol.specs.Catalog.{Config, Entry, Station, has_codes}
+use Rattle.catalog.specs.Groups.{groups_of}
 use Rattle.catalog.specs.Keys.{elements_at, table_in}
 use Rattle.catalog.specs.Settings.{access_of, title_of, connections_of, network_of, code_of, settings_of}
 use Rattle.catalog.specs.Steps.{◌>>=◌, within_if}
@@ -15,11 +16,11 @@ use Rattle.catalog.specs.declared.fault.ConfigFault.TheVariants.{Toml, Missing, 
 -- ---- one station
 
 -- a station's codes and its settings, key after key
-unfoldable pub entry_of : Members → Result Entry ConfigFault
-entry_of members = do
+unfoldable pub entry_of : Option Members → Members → Result Entry ConfigFault
+entry_of groups members = do
   network ← network_of members
   code ← code_of members
-  settings ← settings_of members
+  settings ← settings_of groups members
   Ok (record {
     station = record {
       network = network;
@@ -40,18 +41,19 @@ abbrev pub not_repeated : List Entry → Entry → Result Entry ConfigFault
 not_repeated earlier e = if is_repeated earlier e.station then Err Duplicate else Ok e
 
 -- the station that a value describes, behind earlier ones
-unfoldable pub station_of : List Entry → Data → Result Entry ConfigFault
-station_of earlier d = do
+unfoldable pub station_of : Option Members → List Entry → Data → Result Entry ConfigFault
+station_of groups earlier d = do
   members ← table_in d
-  e ← entry_of members
+  e ← entry_of groups members
   not_repeated earlier e
 
 -- ---- all of them
 
 -- earlier stations, and those that values describe
-abbrev pub stations_read : List Entry → List Data → Result (List Entry) ConfigFault
-stations_read earlier [] = Ok earlier
-stations_read earlier (d ∷ ds) = station_of earlier d >>= (λ e. stations_read (earlier ++ e ∷ []) ds)
+abbrev pub stations_read : Option Members → List Entry → List Data → Result (List Entry) ConfigFault
+stations_read groups earlier [] = Ok earlier
+stations_read groups earlier (d ∷ ds) =
+    station_of groups earlier d >>= (λ e. stations_read groups (earlier ++ e ∷ []) ds)
 
 -- an element that is a table
 abbrev pub is_table : Data → Bool
@@ -76,7 +78,7 @@ station_values members = do
 unfoldable pub stations_of : Members → Result (List Entry) ConfigFault
 stations_of members = do
   values ← station_values members
-  stations_read [] values
+  stations_read (groups_of members) [] values
 
 -- ---- the whole
 
@@ -84,7 +86,7 @@ stations_of members = do
 unfoldable pub config_of : Members → Result Config ConfigFault
 config_of members = do
   title ← title_of members
-  access ← access_of members
+  access ← access_of (groups_of members) members
   connections ← connections_of members
   entries ← stations_of members
   Ok (record { title = title; max_connections = connections; access = access; entries = entries })

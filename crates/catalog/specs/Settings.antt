@@ -7,6 +7,7 @@ use Rattle.protocol.specs.Access.{Token}
 use Rattle.protocol.specs.Packet.{number_of}
 use Rattle.access_list.specs.Tokens.{list_of}
 use Rattle.access_list.specs.declared.fault.AccessFault.{AccessFault}
+use Rattle.catalog.specs.Groups.{list_meant}
 use Rattle.catalog.specs.Keys.{text_at, text_if_any, number_at, number_if_any, number_up_to}
 use Rattle.catalog.specs.Steps.{◌>>=◌, within, within_if}
 use Rattle.catalog.specs.Texts.{is_title, is_network, is_code, is_description}
@@ -28,15 +29,15 @@ abbrev pub access_spelled : List ℕ → Result (List Token) ConfigFault
 access_spelled text = access_told (list_of text)
 
 -- without a text there is no list
-abbrev pub access_by : Option (List ℕ) → Result (Option (List Token)) ConfigFault
-access_by None = Ok None
-access_by (Some text) = access_spelled text >>= (λ tokens. Ok (Some tokens))
+abbrev pub access_by : Option Members → Option (List ℕ) → Result (Option (List Token)) ConfigFault
+access_by groups None = Ok None
+access_by groups (Some text) = access_spelled (list_meant groups text) >>= (λ tokens. Ok (Some tokens))
 
--- `access`: addresses and masks, may be missing
-unfoldable pub access_of : Members → Result (Option (List Token)) ConfigFault
-access_of members = do
+-- `access`: addresses, masks and names of groups, may be missing
+unfoldable pub access_of : Option Members → Members → Result (Option (List Token)) ConfigFault
+access_of groups members = do
   text ← text_if_any (codes "access") members
-  access_by text
+  access_by groups text
 
 -- ---- of the whole server
 
@@ -114,12 +115,12 @@ settings_value s =
     record { description = s.description.items; capacity = s.capacity; first = s.first; access = s.access }
 
 -- they are read key after key
-abbrev pub settings_of : Members → Result SettingsValue ConfigFault
-settings_of members = do
+abbrev pub settings_of : Option Members → Members → Result SettingsValue ConfigFault
+settings_of groups members = do
   description ← description_of members
   capacity ← capacity_of members
   first ← first_of members
-  access ← access_of members
+  access ← access_of groups members
   Ok (record { description = description; capacity = capacity; first = first; access = access })
 
 -- the steps that read them, in the same order
@@ -131,12 +132,12 @@ abbrev pub key_steps : List StationStep
 key_steps = step.Network ∷ step.Code ∷ setting_steps
 
 -- why the value of a key is refused at the step that reads it, if it is; the other steps read no key
-abbrev pub key_fault : Members → StationStep → Option ConfigFault
-key_fault _ step.Table = None
-key_fault members step.Network = result_err (network_of members)
-key_fault members step.Code = result_err (code_of members)
-key_fault members step.Description = result_err (description_of members)
-key_fault members step.Capacity = result_err (capacity_of members)
-key_fault members step.First = result_err (first_of members)
-key_fault members step.Access = result_err (access_of members)
-key_fault _ step.Codes = None
+abbrev pub key_fault : Option Members → Members → StationStep → Option ConfigFault
+key_fault _ _ step.Table = None
+key_fault groups members step.Network = result_err (network_of members)
+key_fault groups members step.Code = result_err (code_of members)
+key_fault groups members step.Description = result_err (description_of members)
+key_fault groups members step.Capacity = result_err (capacity_of members)
+key_fault groups members step.First = result_err (first_of members)
+key_fault groups members step.Access = result_err (access_of groups members)
+key_fault _ _ step.Codes = None

@@ -21,6 +21,7 @@ ghost use Rattle.catalog.specs.declared.error.Step.TheVariants.{Text};
 use crate::comparing::{are_same, are_seen, copies};
 use crate::error::{ConfigError, Step};
 use crate::fault::ConfigFault;
+use crate::groups::Groups;
 use crate::index::Index;
 use crate::keys::table_of;
 use crate::listing::stations_of;
@@ -71,7 +72,8 @@ impl Config {
     /// steps of `StationStep`, which say what is allowed there. Other keys are ignored.
     ///
     /// - `title` has 1 to 100 bytes of printable ASCII.
-    /// - `access` is a list of addresses and masks, and may be missing.
+    /// - `access` is a list of addresses and masks, and may be missing. An entry of `@` and the name of a text of the
+    ///   table `groups` stands for the entries of that text.
     /// - `max_connections` is 1 to 10,000, and 100 where it is missing.
     /// - `station` is an array of 1 to 1,024 tables.
     ///
@@ -124,7 +126,7 @@ impl Config {
             Ok(title) => title,
             Err(fault) => return Err(ConfigError::at(fault, Step::Title)),
         };
-        let access = match access_of(alloc, table) {
+        let access = match access_of(alloc, &Groups::of(table), table) {
             Ok(access) => access,
             Err(fault) => return Err(ConfigError::at(fault, Step::Access)),
         };

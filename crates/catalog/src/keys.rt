@@ -34,7 +34,7 @@ pub fn table_of(alloc: Global, text: &[u8]) -> Result<Table, ConfigFault>
 }
 
 /// The value at a key.
-fn value_at<'a>(table: &'a Table, key: &str) -> Option<&'a Value>
+pub(crate) fn value_at<'a>(table: &'a Table, key: &str) -> Option<&'a Value>
     ensures { option_map (λ v. view v.now) result ≡ get_member key.now (table_view table.now) }
 {
     table.get(key)

@@ -4,6 +4,7 @@ ghost use Rattle.std.specs.Prelude.{IfOk, IfErr, Ok, Err, false, true};
 ghost use Rattle.std.specs.List.{list_all};
 ghost use Rattle.toml.specs.View.{table_view, view};
 ghost use Rattle.catalog.specs.Failing.{FailsAmong, FailsInStations, FailsWithin};
+ghost use Rattle.catalog.specs.Groups.{groups_value};
 ghost use Rattle.catalog.specs.Indexing.{Finds, HasShortCodes};
 ghost use Rattle.catalog.specs.Keys.{table_in};
 ghost use Rattle.catalog.specs.Places.{HasDistinctCodes};
@@ -12,6 +13,7 @@ ghost use Rattle.catalog.specs.Reading.{stations_read};
 
 use crate::error::{ConfigError, Step};
 use crate::fault::ConfigFault;
+use crate::groups::Groups;
 use crate::index::Index;
 use crate::keys::{elements_at, table_in};
 use crate::settings::StationStep;
@@ -43,7 +45,7 @@ pub(crate) fn stations_of(alloc: Global, table: &Table) -> Result<IndexedStation
         → FailsInStations (table_view table.now) e e.step) }
 {
     match station_values(table) {
-        Ok(values) => stations_read(alloc, values),
+        Ok(values) => stations_read(alloc, &Groups::of(table), values),
         Err(fault) => Err(ConfigError::at(fault, Step::Stations)),
     }
 }
@@ -82,20 +84,24 @@ fn are_tables(values: &[Value]) -> bool
 
 /// The stations that values describe.
 #[tactic(auto, using(crate::proofs::DistinctLemmas::distinct_lemmas))]
-fn stations_read(alloc: Global, values: &[Value]) -> Result<IndexedStations, ConfigError>
-    ensures ok { IfOk result (λ listed. stations_read [] (map view values.now) ≡ Ok listed.stations.items) }
+fn stations_read(
+    alloc: Global,
+    groups: &Groups<'_>,
+    values: &[Value],
+) -> Result<IndexedStations, ConfigError>
+    ensures ok { IfOk result (λ listed. stations_read (groups_value groups.now) [] (map view values.now) ≡ Ok listed.stations.items) }
     ensures distinct { IfOk result (λ listed. HasDistinctCodes listed.stations.items) }
     ensures count { IfOk result (λ listed. length listed.stations.items ≡ length values.now) }
     ensures finds { IfOk result (λ listed. Finds listed.index.places listed.stations.items) }
     ensures short { IfOk result (λ listed. All HasShortCodes listed.stations.items) }
     ensures fault { IfErr result (λ e. e.fault ≢ ConfigFault.OutOfMemory
-        → stations_read [] (map view values.now) ≡ Err e.fault) }
-    ensures step { IfErr result (λ e. e.fault ≢ ConfigFault.OutOfMemory → FailsAmong (map view values.now) e e.step) }
+        → stations_read (groups_value groups.now) [] (map view values.now) ≡ Err e.fault) }
+    ensures step { IfErr result (λ e. e.fault ≢ ConfigFault.OutOfMemory → FailsAmong (groups_value groups.now) (map view values.now) e e.step) }
 {
     let mut stations = Vec::new(alloc);
     let mut index = Index::new(alloc);
     for value in values {
-        let station = station_of(alloc, stations.as_slice(), &mut index, value)?;
+        let station = station_of(alloc, groups, stations.as_slice(), &mut index, value)?;
         if let Err(_) = stations.push(station) {
             return Err(ConfigError::at(ConfigFault::OutOfMemory, Step::Stations));
         }
@@ -107,27 +113,28 @@ fn stations_read(alloc: Global, values: &[Value]) -> Result<IndexedStations, Con
 #[tactic(auto, unfolding(crate::specs::Reading::station_of))]
 fn station_of(
     alloc: Global,
+    groups: &Groups<'_>,
     earlier: &[Station],
     index: &mut Index,
     value: &Value,
 ) -> Result<Station, ConfigError>
     requires { Finds index.old.places earlier.now }
-    ensures ok { IfOk result (λ s. station_of earlier.now (view value.now) ≡ Ok s) }
+    ensures ok { IfOk result (λ s. station_of (groups_value groups.now) earlier.now (view value.now) ≡ Ok s) }
     ensures apart { IfOk result (λ s. is_repeated earlier.now s.station ≡ false) }
     ensures some { IfOk result (λ s. 1 ≤ length s.station.network) }
     ensures finds { IfOk result (λ s. Finds index.new.places (earlier.now ++ s ∷ [])) }
     ensures short { IfOk result HasShortCodes }
     ensures fault { IfErr result (λ e. e.fault ≢ ConfigFault.OutOfMemory
-        → station_of earlier.now (view value.now) ≡ Err e.fault) }
+        → station_of (groups_value groups.now) earlier.now (view value.now) ≡ Err e.fault) }
     ensures step { IfErr result (λ e. e.fault ≢ ConfigFault.OutOfMemory
-        → FailsWithin (length earlier.now) earlier.now (table_in (view value.now)) e) }
+        → FailsWithin (groups_value groups.now) (length earlier.now) earlier.now (table_in (view value.now)) e) }
 {
     let place = earlier.len();
     let table = match table_in(value) {
         Ok(table) => table,
         Err(fault) => return Err(ConfigError::at(fault, Step::Station(place, StationStep::Table))),
     };
-    let station = Station::read(alloc, table, place)?;
+    let station = Station::read(alloc, groups, table, place)?;
     let is_repeated = index.add(earlier, &station).map_err(|_| ConfigError::at(
         ConfigFault::OutOfMemory,
         Step::Stations,

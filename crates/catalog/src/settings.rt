@@ -3,12 +3,14 @@
 ghost use Rattle.std.specs.Prelude.{◌≡◌, ◌≢◌, ◌≤◌, length, IfOk, IfErr, Ok, Err, None};
 ghost use Rattle.toml.specs.View.{table_view};
 ghost use Rattle.catalog.specs.Failing.{FailsAtSetting};
+ghost use Rattle.catalog.specs.Groups.{groups_value, list_meant};
 ghost use Rattle.catalog.specs.Settings.{access_spelled, access_of, title_of, connections_of, network_of, code_of};
 ghost use Rattle.catalog.specs.Settings.{description_of, capacity_of, first_of, key_fault, setting_steps, settings_of};
 ghost use Rattle.catalog.specs.Settings.{settings_value};
 ghost use Rattle.catalog.specs.Steps.{first_fault};
 
 use crate::fault::ConfigFault;
+use crate::groups::Groups;
 use crate::keys::{copied_if, number_at, number_if_any, number_up_to, text_at, text_if_any};
 use crate::texts::{is_code, is_description, is_network, is_title};
 use access_list::{AccessFault, AccessList};
@@ -31,14 +33,31 @@ fn access_spelled(alloc: Global, text: &[u8]) -> Result<AccessList, ConfigFault>
     }
 }
 
-/// The list of `access`, which may be missing.
+/// The list that an access text means, where these are the groups.
+fn access_meant(alloc: Global, groups: &Groups<'_>, text: &[u8]) -> Result<AccessList, ConfigFault>
+    ensures ok { IfOk result (λ list. access_spelled (list_meant (groups_value groups.now) text.now) ≡ Ok list) }
+    ensures fault { IfErr result (λ e. e ≢ ConfigFault.OutOfMemory
+        → access_spelled (list_meant (groups_value groups.now) text.now) ≡ Err e) }
+{
+    match groups.list_meant(alloc, text) {
+        Ok(meant) => access_spelled(alloc, meant.as_slice()),
+        Err(_) => Err(ConfigFault::OutOfMemory),
+    }
+}
+
+/// The list of `access`, which may be missing and may name groups.
 #[tactic(auto, unfolding(crate::specs::Settings::access_of))]
-pub fn access_of(alloc: Global, table: &Table) -> Result<Option<AccessList>, ConfigFault>
-    ensures ok { IfOk result (λ access. access_of (table_view table.now) ≡ Ok access) }
-    ensures fault { IfErr result (λ e. e ≢ ConfigFault.OutOfMemory → access_of (table_view table.now) ≡ Err e) }
+pub fn access_of(
+    alloc: Global,
+    groups: &Groups<'_>,
+    table: &Table,
+) -> Result<Option<AccessList>, ConfigFault>
+    ensures ok { IfOk result (λ access. access_of (groups_value groups.now) (table_view table.now) ≡ Ok access) }
+    ensures fault { IfErr result (λ e. e ≢ ConfigFault.OutOfMemory
+        → access_of (groups_value groups.now) (table_view table.now) ≡ Err e) }
 {
     match text_if_any(table, "access")? {
-        Some(text) => Ok(Some(access_spelled(alloc, text)?)),
+        Some(text) => Ok(Some(access_meant(alloc, groups, text)?)),
         None => Ok(None),
     }
 }
@@ -139,7 +158,7 @@ pub enum StationStep {
     Capacity,
     /// `first` has 1 to 6 hexadecimal digits of either case, and is 0 if it is missing.
     First,
-    /// `access` is a list of addresses and masks, and may be missing.
+    /// `access` is a list of addresses, masks and names of groups, and may be missing.
     Access,
     /// No earlier station has the same network and code.
     Codes,
@@ -162,22 +181,26 @@ pub(crate) struct SettingsError {
 }
 
 impl Settings {
-    /// Reads the settings of a station's table beside its codes, key after key.
-    pub fn read(alloc: Global, table: &Table) -> Result<Settings, SettingsError>
-        ensures ok { IfOk result (λ s. settings_of (table_view table.now) ≡ Ok (settings_value s)) }
-        ensures steps { IfOk result (λ s. first_fault (key_fault (table_view table.now)) setting_steps ≡ None) }
+    /// Reads the settings of a station's table beside its codes, key after key, where these are the groups.
+    pub fn read(
+        alloc: Global,
+        groups: &Groups<'_>,
+        table: &Table,
+    ) -> Result<Settings, SettingsError>
+        ensures ok { IfOk result (λ s. settings_of (groups_value groups.now) (table_view table.now) ≡ Ok (settings_value s)) }
+        ensures steps { IfOk result (λ s. first_fault (key_fault (groups_value groups.now) (table_view table.now)) setting_steps ≡ None) }
         ensures short { IfOk result (λ s. length s.description.items ≤ 60) }
         ensures some { IfOk result (λ s. 1 ≤ s.capacity) }
         ensures limit { IfOk result (λ s. s.capacity ≤ 65536) }
         ensures fault { IfErr result (λ e. e.fault ≢ ConfigFault.OutOfMemory
-            → settings_of (table_view table.now) ≡ Err e.fault) }
+            → settings_of (groups_value groups.now) (table_view table.now) ≡ Err e.fault) }
         ensures step { IfErr result (λ e. e.fault ≢ ConfigFault.OutOfMemory
-            → FailsAtSetting (table_view table.now) e.fault e.step) }
+            → FailsAtSetting (groups_value groups.now) (table_view table.now) e.fault e.step) }
     {
         let description = read_at(StationStep::Description, description_of(alloc, table))?;
         let capacity = read_at(StationStep::Capacity, capacity_of(table))?;
         let first = read_at(StationStep::First, first_of(table))?;
-        let access = read_at(StationStep::Access, access_of(alloc, table))?;
+        let access = read_at(StationStep::Access, access_of(alloc, groups, table))?;
         Ok(Settings {
             description,
             capacity,

@@ -5,6 +5,7 @@ ghost use Rattle.toml.specs.View.{table_view};
 ghost use Rattle.protocol.specs.Catalog.{Entry, has_codes, is_same_station, sees};
 ghost use Rattle.catalog.specs.Changes.{is_same_list};
 ghost use Rattle.catalog.specs.Failing.{FailsWithin};
+ghost use Rattle.catalog.specs.Groups.{groups_value};
 ghost use Rattle.catalog.specs.Indexing.{key, HasShortCodes};
 ghost use Rattle.catalog.specs.Reading.{entry_of};
 ghost use Rattle.catalog.specs.Settings.{code_of, key_fault, key_steps, network_of};
@@ -15,6 +16,7 @@ ghost use Rattle.catalog.specs.declared.error.Step.TheVariants.{Station as Stati
 use crate::codes::Codes;
 use crate::error::{ConfigError, Step};
 use crate::fault::ConfigFault;
+use crate::groups::Groups;
 use crate::settings::{Settings, StationStep, code_of, network_of};
 use access_list::AccessList;
 use sl_packet::Seq;
@@ -66,15 +68,20 @@ impl Station {
     /// Reads the settings of a station's table, key after key; other keys are ignored. The station is the one at that
     /// place.
     #[tactic(auto, unfolding(crate::specs::Reading::entry_of))]
-    pub(crate) fn read(alloc: Global, table: &Table, place: usize) -> Result<Station, ConfigError>
-        ensures ok { IfOk result (λ station. entry_of (table_view table.now) ≡ Ok station) }
-        ensures keys { OnOk result (first_fault (key_fault (table_view table.now)) key_steps ≡ None) }
+    pub(crate) fn read(
+        alloc: Global,
+        groups: &Groups<'_>,
+        table: &Table,
+        place: usize,
+    ) -> Result<Station, ConfigError>
+        ensures ok { IfOk result (λ station. entry_of (groups_value groups.now) (table_view table.now) ≡ Ok station) }
+        ensures keys { OnOk result (first_fault (key_fault (groups_value groups.now) (table_view table.now)) key_steps ≡ None) }
         ensures network { IfOk result (λ station. network_of (table_view table.now) ≡ Ok station.station.network) }
         ensures code { IfOk result (λ station. code_of (table_view table.now) ≡ Ok station.station.code) }
         ensures fault { IfErr result (λ e. e.fault ≢ ConfigFault.OutOfMemory
-            → entry_of (table_view table.now) ≡ Err e.fault) }
+            → entry_of (groups_value groups.now) (table_view table.now) ≡ Err e.fault) }
         ensures step { IfErr result (λ e. e.fault ≢ ConfigFault.OutOfMemory → (earlier : List Entry)
-            → FailsWithin place earlier (Ok (table_view table.now)) e) }
+            → FailsWithin (groups_value groups.now) place earlier (Ok (table_view table.now)) e) }
     {
         let network = match network_of(alloc, table) {
             Ok(network) => network,
@@ -88,7 +95,7 @@ impl Station {
             Err(fault) => return Err(ConfigError::with_network(fault, place, network)),
         };
         let codes = Codes::spelling(network.as_slice(), code.as_slice());
-        match Settings::read(alloc, table) {
+        match Settings::read(alloc, groups, table) {
             Ok(settings) => Ok(Station {
                 network,
                 code,

@@ -3,7 +3,8 @@ use Rattle.std.proofs.Common.{◌≡◌, ℕ, ◌+◌, ◌<◌, ◌≤◌, zero,
 use Rattle.std.proofs.Common.{append-nil, append_assoc, sym, ap, ap₂, ◌∙◌, arith, add-one, drop-cons}
 use Rattle.toml.specs.Data.{Members}
 use Rattle.protocol.specs.Catalog.{Entry}
-use Rattle.config_explained.specs.Holders.{holder_line, holders_from, list_at}
+use Rattle.config_explained.specs.Holders.{holder_line, holders_from}
+use Rattle.config_explained.specs.Lists.{shown_at}
 
 -- the lines of the stations from a place on
 abbrev pub lines_left : Members → List Entry → ℕ → List ℕ
@@ -21,11 +22,11 @@ drop_past (e ∷ es) (suc k) past = drop_past es k (omega (arith, past))
 -- one line more
 pub line_more : (keys : Members) (es : List Entry) (all text : List ℕ) (place : ℕ) (e : Entry)
     → all ≡ text ++ lines_left keys es place → place < length es → e ≡ get_or es place e
-    → all ≡ (text ++ holder_line e.station (list_at keys place)) ++ lines_left keys es (place + 1)
+    → all ≡ (text ++ holder_line e.station (shown_at keys place)) ++ lines_left keys es (place + 1)
 line_more keys es all text place e so_far lt is =
     so_far
     ∙ ap (λ xs. text ++ holders_from keys place (map (λ x. x.station) xs)) (drop_at es place e lt is)
-    ∙ sym (append_assoc text (holder_line e.station (list_at keys place)) (lines_left keys es (place + 1)))
+    ∙ sym (append_assoc text (holder_line e.station (shown_at keys place)) (lines_left keys es (place + 1)))
 
 -- all of them
 pub lines_all : (keys : Members) (es : List Entry) (all text : List ℕ) (place : ℕ)

@@ -5,6 +5,8 @@ pub mod StationLemmas
 mod SeenLemmas
 mod HolderLemmas
 mod EntryLemmas
+mod PieceLemmas
+mod SilenceLemmas
 mod OpenedLemmas
 mod UserLemmas
 mod KeyLemmas

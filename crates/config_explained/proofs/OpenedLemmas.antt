@@ -7,7 +7,7 @@ use Rattle.toml.specs.Data.{Members}
 use Rattle.protocol.specs.Access.{Token}
 use Rattle.protocol.specs.Catalog.{Entry}
 use Rattle.access_list.specs.Tokens.{token_of}
-use Rattle.config_explained.specs.Holders.{list_at}
+use Rattle.config_explained.specs.Lists.{meant_at}
 use Rattle.config_explained.specs.Opened.{is_open, networks_in, onto, opened_from}
 
 -- ---- stations
@@ -27,14 +27,14 @@ drop_past (e ∷ es) (suc k) past = drop_past es k (omega (arith, past))
 
 left_by : (keys : Members) (es : List Entry) (place : ℕ) (e : Entry) → place < length es → e ≡ get_or es place e
     → opened_left keys es place
-    ≡ (if is_open (list_at keys place) then 1 + opened_left keys es (place + 1) else opened_left keys es (place + 1))
+    ≡ (if is_open (meant_at keys place) then 1 + opened_left keys es (place + 1) else opened_left keys es (place + 1))
 left_by keys es place e lt is =
     ap (λ xs. opened_from keys place (map (λ x. x.station) xs)) (drop_at es place e lt is)
 
 -- one that is open
 pub open_more : (keys : Members) (es : List Entry) (all count place : ℕ) (e : Entry)
     → all ≡ count + opened_left keys es place → place < length es → e ≡ get_or es place e
-    → is_open (list_at keys place) ≡ true → all ≡ count + 1 + opened_left keys es (place + 1)
+    → is_open (meant_at keys place) ≡ true → all ≡ count + 1 + opened_left keys es (place + 1)
 open_more keys es all count place e so_far lt is opens =
     let left : opened_left keys es place ≡ 1 + opened_left keys es (place + 1) = rw opens at (left_by keys es place e lt is) in
     omega (arith, so_far, left)
@@ -42,7 +42,7 @@ open_more keys es all count place e so_far lt is opens =
 -- one that is not
 pub open_not : (keys : Members) (es : List Entry) (all count place : ℕ) (e : Entry)
     → all ≡ count + opened_left keys es place → place < length es → e ≡ get_or es place e
-    → is_open (list_at keys place) ≡ false → all ≡ count + opened_left keys es (place + 1)
+    → is_open (meant_at keys place) ≡ false → all ≡ count + opened_left keys es (place + 1)
 open_not keys es all count place e so_far lt is shut =
     let left : opened_left keys es place ≡ opened_left keys es (place + 1) = rw shut at (left_by keys es place e lt is) in
     omega (arith, so_far, left)

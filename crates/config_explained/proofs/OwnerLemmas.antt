@@ -7,11 +7,11 @@ abbrev by : Whose → List ℕ → Members → Bool → List ℕ
 by o key rest known = flat_map (key_line o) (if known then unknown_in o rest else key ∷ unknown_in o rest)
 
 -- a key that is known has no line
-pub known : (o : Whose) (key : List ℕ) (value : Data) (rest : Members) → is_known o key ≡ true
+pub known : (o : Whose) (key : List ℕ) (value : Data) (rest : Members) → is_known o key value ≡ true
     → owner_lines o (member key value rest) ≡ owner_lines o rest
 known o key value rest is = ap (by o key rest) is
 
 -- one that is not has its line
-pub unknown : (o : Whose) (key : List ℕ) (value : Data) (rest : Members) → is_known o key ≡ false
+pub unknown : (o : Whose) (key : List ℕ) (value : Data) (rest : Members) → is_known o key value ≡ false
     → owner_lines o (member key value rest) ≡ key_line o key ++ owner_lines o rest
 unknown o key value rest is = ap (by o key rest) is

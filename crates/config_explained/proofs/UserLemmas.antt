@@ -3,7 +3,7 @@ use Rattle.std.proofs.Common.{◌≡◌, ℕ, ◌+◌, ◌<◌, ◌≤◌, zero,
 use Rattle.std.proofs.Common.{append-nil, append_assoc, sym, ap, ap₂, ◌∙◌, arith, add-one, drop-cons}
 use Rattle.toml.specs.Data.{Members}
 use Rattle.protocol.specs.Catalog.{Entry}
-use Rattle.config_explained.specs.Holders.{list_at}
+use Rattle.config_explained.specs.Lists.{shown_at}
 use Rattle.config_explained.specs.Users.{users_from, users_text}
 
 -- the texts of the stations from a place on
@@ -26,7 +26,7 @@ map_append f (y ∷ ys) x = ap (λ t. f y ∷ t) (map_append f ys x)
 -- one text more
 pub user_more : {A : Type 0} (f : A → List ℕ) (keys : Members) (es : List Entry) (all : List (List ℕ)) (texts : List A)
     (text : A) (place : ℕ) (e : Entry) → all ≡ map f texts ++ users_left keys es place → place < length es
-    → e ≡ get_or es place e → f text ≡ users_text (list_at keys place)
+    → e ≡ get_or es place e → f text ≡ users_text (shown_at keys place)
     → all ≡ map f (texts ++ text ∷ []) ++ users_left keys es (place + 1)
 user_more f keys es all texts text place e so_far lt is made =
     so_far

@@ -9,7 +9,8 @@ use Rattle.protocol.specs.declared.reason.Reason.{Reason}
 use Rattle.protocol.specs.declared.reason.Reason.TheVariants.{Different}
 use Rattle.config_explained.specs.Coverage.{admits_all}
 use Rattle.config_explained.specs.Gains.{everything, gains}
-use Rattle.config_explained.specs.Holders.{list_at, words_of}
+use Rattle.config_explained.specs.Holders.{words_of}
+use Rattle.config_explained.specs.Lists.{meant_at}
 use Rattle.config_explained.specs.NetworkTexts.{network_text}
 use Rattle.config_explained.specs.Opened.{networks_of}
 
@@ -23,7 +24,7 @@ admitted_by (Some list) = networks_of list
 -- by its place; nobody may use a station that is not there
 abbrev pub admitted : Members → Option ℕ → List Token
 admitted keys None = []
-admitted keys (Some place) = admitted_by (list_at keys place)
+admitted keys (Some place) = admitted_by (meant_at keys place)
 
 -- everybody may
 abbrev pub is_everybody : List Token → Bool

@@ -6,6 +6,7 @@ use Rattle.std.specs.Str.Lossy.{utf8_valid_len}
 use Rattle.toml.specs.Data.{Members, as_str}
 use Rattle.toml.specs.Parse.{parse_document}
 use Rattle.access_list.specs.Tokens.{first_refused}
+use Rattle.catalog.specs.Groups.{groups_of, list_meant}
 use Rattle.catalog.specs.declared.error.ConfigError.{ConfigError}
 use Rattle.catalog.specs.declared.error.Step.{Step}
 use Rattle.catalog.specs.declared.fault.ConfigFault.{ConfigFault}
@@ -67,10 +68,14 @@ IsEntry (Some entry) (Entry text) = text.items ≡ entry
 IsEntry (Some entry) _ = ⊥
 IsEntry None f = f ≡ Nothing
 
+-- the first entry of a list that is refused, among those that it means
+abbrev pub refused_in : Members → List ℕ → Option (List ℕ)
+refused_in keys list = first_refused (list_meant (groups_of keys) list)
+
 -- of a text's table: the first entry that is refused
 abbrev pub FindsEntry : Option Members → Step → ConfigFinding → Type 0
 FindsEntry None s f = f ≡ Nothing
-FindsEntry (Some keys) s f = IsEntry (option_and_then first_refused (text_at keys s)) f
+FindsEntry (Some keys) s f = IsEntry (option_and_then (refused_in keys) (text_at keys s)) f
 
 -- ---- by the fault
 

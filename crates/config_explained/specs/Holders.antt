@@ -6,9 +6,7 @@ use Rattle.toml.specs.Data.{Members}
 use Rattle.protocol.specs.Catalog.{Config, Entry, Station, has_codes}
 use Rattle.protocol.specs.Pieces.{split, without_empty}
 use Rattle.access_list.specs.Tokens.{is_separator}
-use Rattle.catalog.specs.declared.error.Step.TheVariants as step
-use Rattle.catalog.specs.declared.settings.StationStep.TheVariants as station
-use Rattle.config_explained.specs.Findings.{text_at}
+use Rattle.config_explained.specs.Lists.{shown_at}
 
 -- the entries of a list: what stands between its separators
 abbrev pub entries_of : List ℕ → List (List ℕ)
@@ -29,15 +27,6 @@ abbrev pub list_words : Option (List ℕ) → List ℕ
 list_words None = words_of (codes "-" ∷ [])
 list_words (Some list) = or_nobody (entries_of list)
 
--- the first text that is there
-abbrev pub either : Option (List ℕ) → Option (List ℕ) → Option (List ℕ)
-either None other = other
-either (Some own) other = Some own
-
--- the text of the list that holds for the station at a place: its own, or the server's
-abbrev pub list_at : Members → ℕ → Option (List ℕ)
-list_at keys place = either (text_at keys (step.Station place station.Access)) (text_at keys step.Access)
-
 -- the line of a station, with its end
 abbrev pub holder_line : Station → Option (List ℕ) → List ℕ
 holder_line s list = s.network ++ 32 ∷ s.code ++ list_words list ++ 10 ∷ []
@@ -45,7 +34,7 @@ holder_line s list = s.network ++ 32 ∷ s.code ++ list_words list ++ 10 ∷ []
 -- the lines of stations from a place on
 abbrev pub holders_from : Members → ℕ → List Station → List ℕ
 holders_from keys place [] = []
-holders_from keys place (s ∷ ss) = holder_line s (list_at keys place) ++ holders_from keys (place + 1) ss
+holders_from keys place (s ∷ ss) = holder_line s (shown_at keys place) ++ holders_from keys (place + 1) ss
 
 -- the lines of all stations
 abbrev pub holders_text : Members → List Station → List ℕ
@@ -54,7 +43,7 @@ holders_text keys ss = holders_from keys 0 ss
 -- the line of the station at a place, if there is one
 abbrev pub holder_at : Members → ℕ → Option Station → List ℕ
 holder_at keys place None = []
-holder_at keys place (Some s) = holder_line s (list_at keys place)
+holder_at keys place (Some s) = holder_line s (shown_at keys place)
 
 -- of a place that was found, or not
 abbrev pub holder_found : Members → List Entry → Option ℕ → Option (List ℕ)

@@ -1,8 +1,8 @@
 -- The table of the configuration's keys: one list, from which comes what is known, what is allowed and what is explained.
-use Rattle.std.specs.Prelude.{◌≡◌, ℕ, List, [], ◌∷◌, Option, Some, None, codes, Bool, true}
+use Rattle.std.specs.Prelude.{◌≡◌, ℕ, List, [], ◌∷◌, Option, Some, None, codes, Bool, true, ◌&&◌, is_some}
 use Rattle.std.specs.List.{list_any}
 use Rattle.std.specs.Str.{bytes_eq}
-use Rattle.toml.specs.Data.{Members, get_member}
+use Rattle.toml.specs.Data.{Data, Members, as_table, get_member}
 use Rattle.protocol.specs.Catalog.{Station}
 use Rattle.catalog.specs.Reading.{entry_of, config_of}
 use Rattle.catalog.specs.declared.error.Step.{Step}
@@ -12,6 +12,7 @@ use Rattle.catalog.specs.declared.settings.StationStep.TheVariants as station
 use Rattle.config_explained.specs.declared.key.Key.{Key}
 use Rattle.config_explained.specs.declared.key.Key.TheVariants as key
 use Rattle.config_explained.specs.SettingValues.{SettingValue}
+use Rattle.config_explained.specs.Silences.{silence_in}
 use Rattle.config_explained.specs.SettingValues.SettingValue.{nothing, text, number, sequence}
 use Rattle.config_explained.specs.declared.kind.ValueKind.{ValueKind}
 use Rattle.config_explained.specs.declared.kind.ValueKind.TheVariants as kind
@@ -75,20 +76,45 @@ row_of key.Access =
       limits = list_limits;
       missing = Some (codes "the list of the whole server holds");
     }
+row_of key.Groups =
+    record {
+      name = codes "groups";
+      kind = kind.Table;
+      limits = codes "a table of texts, each an access list with a name";
+      missing = Some (codes "an access list names no group");
+    }
+row_of key.Silent =
+    record {
+      name = codes "silent";
+      kind = kind.WholeNumber;
+      limits = codes "a whole number of seconds from 0 to 1000000000, where 0 is never";
+      missing = Some (codes "the seconds of --silent");
+    }
 
 abbrev pub name_of : Key → List ℕ
 name_of k = (row_of k).name
 
 -- the keys of the whole server, and those of a station
 abbrev pub server_keys : List Key
-server_keys = key.Title ∷ key.ServerAccess ∷ key.MaxConnections ∷ key.Station ∷ []
+server_keys = key.Title ∷ key.ServerAccess ∷ key.MaxConnections ∷ key.Groups ∷ key.Station ∷ []
 
 abbrev pub station_keys : List Key
-station_keys = key.Network ∷ key.Code ∷ key.Description ∷ key.Capacity ∷ key.First ∷ key.Access ∷ []
+station_keys =
+    key.Network ∷ key.Code ∷ key.Description ∷ key.Capacity ∷ key.First ∷ key.Access ∷ key.Silent ∷ []
 
 -- a text is the name of one of some keys
 abbrev pub is_name_of : List Key → List ℕ → Bool
 is_name_of keys word = list_any (λ k. bytes_eq word (name_of k)) keys
+
+-- Whether a value is one that a key may have. Any value of a key that the reading takes is: the reading judges it.
+abbrev pub may_be : Key → Data → Bool
+may_be key.Groups d = is_some (as_table d)
+may_be key.Silent d = is_some (silence_in d)
+may_be _ d = true
+
+-- a text is the name of one of some keys, and may have that value
+abbrev pub is_key_of : List Key → List ℕ → Data → Bool
+is_key_of keys word d = list_any (λ k. bytes_eq word (name_of k) && may_be k d) keys
 
 -- ---- the steps of the reading
 
@@ -112,18 +138,21 @@ key_at step.MaxConnections = Some key.MaxConnections
 key_at step.Stations = Some key.Station
 key_at (step.Station place s) = station_key_at s
 
--- the step that takes a key
-abbrev pub step_of : Key → Step
-step_of key.Title = step.Title
-step_of key.ServerAccess = step.Access
-step_of key.MaxConnections = step.MaxConnections
-step_of key.Station = step.Stations
-step_of key.Network = step.Station 0 station.Network
-step_of key.Code = step.Station 0 station.Code
-step_of key.Description = step.Station 0 station.Description
-step_of key.Capacity = step.Station 0 station.Capacity
-step_of key.First = step.Station 0 station.First
-step_of key.Access = step.Station 0 station.Access
+-- The step that takes a key. Groups are taken where an access list is, and how long a station may be silent is nothing
+-- that the reading takes.
+abbrev pub step_of : Key → Option Step
+step_of key.Groups = None
+step_of key.Silent = None
+step_of key.Title = Some step.Title
+step_of key.ServerAccess = Some step.Access
+step_of key.MaxConnections = Some step.MaxConnections
+step_of key.Station = Some step.Stations
+step_of key.Network = Some (step.Station 0 station.Network)
+step_of key.Code = Some (step.Station 0 station.Code)
+step_of key.Description = Some (step.Station 0 station.Description)
+step_of key.Capacity = Some (step.Station 0 station.Capacity)
+step_of key.First = Some (step.Station 0 station.First)
+step_of key.Access = Some (step.Station 0 station.Access)
 
 -- ---- the values that a station has of them
 
@@ -145,7 +174,7 @@ AreAlike keys m m' = (word : List ℕ) → is_name_of keys word ≡ true → get
 -- The reading takes no other key: tables that have the same at the keys of the list are read the same, whatever else
 -- they have.
 pub record ReadsTheTable : Type 0 where
-  pub of_station : (m m' : Members) → AreAlike station_keys m m' → entry_of m ≡ entry_of m'
+  pub of_station : (groups : Option Members) (m m' : Members) → AreAlike station_keys m m' → entry_of groups m ≡ entry_of groups m'
   pub of_server : (m m' : Members) → AreAlike server_keys m m' → config_of m ≡ config_of m'
-  -- and each key of the list is taken by a step
-  pub each : (k : Key) → key_at (step_of k) ≡ Some k
+  -- and a step that takes a key of the list takes no other
+  pub each : (k : Key) (s : Step) → step_of k ≡ Some s → key_at s ≡ Some k

@@ -3,11 +3,15 @@ pub mod Places
 pub mod SettingValues
 pub mod KeyTable
 pub mod Kinds
+pub mod Lists
 pub mod Values
 pub mod SettingTexts
 pub mod Findings
 pub mod Differences
 pub mod Nearest
+pub mod ShownKeys
+pub mod Silences
+pub mod Tables
 pub mod Unknown
 pub mod Seen
 pub mod Holders

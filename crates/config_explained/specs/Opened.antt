@@ -7,7 +7,7 @@ use Rattle.protocol.specs.Access.{Token}
 use Rattle.protocol.specs.Catalog.{Station}
 use Rattle.protocol.specs.Pieces.{split}
 use Rattle.access_list.specs.Tokens.{is_separator, token_of}
-use Rattle.config_explained.specs.Holders.{list_at}
+use Rattle.config_explained.specs.Lists.{meant_at}
 
 -- a network before others, if there is one
 abbrev pub onto : Option Token → List Token → List Token
@@ -36,7 +36,7 @@ is_open (Some list) = list_any is_whole (networks_of list)
 abbrev pub opened_from : Members → ℕ → List Station → ℕ
 opened_from keys place [] = 0
 opened_from keys place (s ∷ ss) =
-    if is_open (list_at keys place) then 1 + opened_from keys (place + 1) ss else opened_from keys (place + 1) ss
+    if is_open (meant_at keys place) then 1 + opened_from keys (place + 1) ss else opened_from keys (place + 1) ss
 
 -- how many of all
 abbrev pub opened_count : Members → List Station → ℕ

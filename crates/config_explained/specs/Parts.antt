@@ -4,7 +4,7 @@ use Rattle.toml.specs.Data.{Members}
 use Rattle.protocol.specs.Access.{Token}
 use Rattle.protocol.specs.Catalog.{Station}
 use Rattle.config_explained.specs.Coverage.{coverage}
-use Rattle.config_explained.specs.Holders.{list_at}
+use Rattle.config_explained.specs.Lists.{meant_at}
 use Rattle.config_explained.specs.Opened.{networks_of}
 use Rattle.config_explained.specs.declared.coverage.Coverage.{Coverage}
 use Rattle.config_explained.specs.declared.coverage.Coverage.TheVariants.{Whole, Part, Nothing}
@@ -25,7 +25,7 @@ part_line s c = s.network ++ 32 ∷ s.code ++ part_words c ++ 10 ∷ []
 
 -- the line of the station at a place
 abbrev pub part_at : Members → Token → ℕ → Station → List ℕ
-part_at keys n place s = part_line s (part_of (list_at keys place) n)
+part_at keys n place s = part_line s (part_of (meant_at keys place) n)
 
 -- the lines of stations from a place on
 abbrev pub parts_from : Members → Token → ℕ → List Station → List ℕ

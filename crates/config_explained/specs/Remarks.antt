@@ -2,16 +2,17 @@
 use Rattle.std.specs.Prelude.{ℕ, zero, suc, ◌+◌, ◌==◌, ◌&&◌, ◌||◌, Bool, if◌then◌else◌, List, [], ◌∷◌, ◌++◌, bit_and}
 use Rattle.std.specs.Prelude.{codes, flat_map, Option, Some, None, option_and_then}
 use Rattle.std.specs.Result.{result_ok}
-use Rattle.toml.specs.Data.{Members}
+use Rattle.toml.specs.Data.{Members, no_members, member, as_str}
 use Rattle.protocol.specs.Access.{Token}
 use Rattle.protocol.specs.Catalog.{Station}
 use Rattle.protocol.specs.Pieces.{split}
 use Rattle.access_list.specs.Tokens.{is_separator, ones, token_of}
+use Rattle.catalog.specs.Groups.{groups_of}
 use Rattle.catalog.specs.declared.error.Step.TheVariants as step
 use Rattle.catalog.specs.declared.settings.StationStep.TheVariants as station
 use Rattle.config_explained.specs.Findings.{text_at}
 use Rattle.config_explained.specs.Unknown.{Whose, owner_words}
-use Rattle.config_explained.specs.Unknown.Whose.{TheServer, TheStation}
+use Rattle.config_explained.specs.Unknown.Whose.{TheGroup, TheServer, TheStation}
 use Rattle.config_explained.specs.declared.remark.Remark.{Remark}
 use Rattle.config_explained.specs.declared.remark.Remark.TheVariants.{Everybody, Nobody, Scattered, Outside}
 
@@ -69,6 +70,16 @@ abbrev pub remarks_from : Members → ℕ → List Station → List ℕ
 remarks_from keys place [] = []
 remarks_from keys place (s ∷ ss) = station_remarks keys place s ++ remarks_from keys (place + 1) ss
 
--- the lines of the server's list and of the stations' own
+-- the lines of the groups
+abbrev pub groups_remarks : Members → List ℕ
+groups_remarks no_members = []
+groups_remarks (member name value rest) = remarks_if (TheGroup name) (as_str value) ++ groups_remarks rest
+
+abbrev pub groups_remarks_if : Option Members → List ℕ
+groups_remarks_if None = []
+groups_remarks_if (Some groups) = groups_remarks groups
+
+-- the lines of the server's list, of the groups and of the stations' own lists
 abbrev pub remarks_text : Members → List Station → List ℕ
-remarks_text keys ss = remarks_if TheServer (text_at keys step.Access) ++ remarks_from keys 0 ss
+remarks_text keys ss =
+    remarks_if TheServer (text_at keys step.Access) ++ groups_remarks_if (groups_of keys) ++ remarks_from keys 0 ss

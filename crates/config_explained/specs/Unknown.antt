@@ -2,50 +2,60 @@
 -- The configuration's keys are this project's own. Left out: in which order the text has them.
 use Rattle.std.specs.Prelude.{ℕ, zero, suc, ◌+◌, ◌-◌, ◌==◌, ◌||◌, nat_lt, Bool, if◌then◌else◌, List, [], ◌∷◌, ◌++◌}
 use Rattle.std.specs.Prelude.{map, flat_map, codes}
-use Rattle.std.specs.Prelude.{decimal, Option, Some, None, option_and_then}
-use Rattle.toml.specs.Data.{Members, no_members, member, as_table, at, get_member}
+use Rattle.std.specs.Prelude.{decimal, Option, Some, None, find, is_some}
+use Rattle.std.specs.Str.{bytes_eq}
+use Rattle.toml.specs.Data.{Data, Members, no_members, member, as_str}
 use Rattle.protocol.specs.Catalog.{Station}
-use Rattle.config_explained.specs.KeyTable.{is_name_of, name_of, server_keys, station_keys}
+use Rattle.catalog.specs.Groups.{groups_of}
+use Rattle.config_explained.specs.KeyTable.{is_key_of, name_of, row_of, server_keys, station_keys}
 use Rattle.config_explained.specs.Nearest.{nearest}
+use Rattle.config_explained.specs.ShownKeys.{shown}
+use Rattle.config_explained.specs.Tables.{station_table}
 use Rattle.config_explained.specs.declared.key.Key.{Key}
 use Rattle.config_explained.specs.declared.owner.Owner.{Owner}
 use Rattle.config_explained.specs.declared.owner.Owner.TheVariants as owner
 
--- whose keys a table has: those of the whole server, or of a station, which is the so manieth from 1 on
+-- whose keys a table has, or whose entries a list: those of the whole server, of its groups or of one of them, or of a
+-- station, which is the so manieth from 1 on
 pub data Whose : Type 0 where
   TheServer : Whose
+  TheGroups : Whose
+  TheGroup : (name : List ℕ) → Whose
   TheStation : (number : ℕ) → Station → Whose
 
 -- the same as the code has it
 abbrev pub whose : Owner → Whose
 whose owner.Server = TheServer
+whose owner.Groups = TheGroups
+whose (owner.Group name) = TheGroup name.now
 whose (owner.Station number station) = TheStation number station.now.station
 
 -- ---- which keys are known
 
--- the keys that the whole server, or a station, has
+-- the keys that the whole server, or a station, has; groups have any names
 abbrev pub keys_of : Whose → List Key
 keys_of TheServer = server_keys
+keys_of TheGroups = []
+keys_of (TheGroup name) = []
 keys_of (TheStation number station) = station_keys
 
--- a key is one of them
-abbrev pub is_known : Whose → List ℕ → Bool
-is_known o key = is_name_of (keys_of o) key
+-- a key is one of them and may have that value; a group is a text
+abbrev pub is_known : Whose → List ℕ → Data → Bool
+is_known TheGroups key d = is_some (as_str d)
+is_known o key d = is_key_of (keys_of o) key d
 
 -- the keys of a table that are not, in its order
 abbrev pub unknown_in : Whose → Members → List (List ℕ)
 unknown_in o no_members = []
-unknown_in o (member key value rest) = if is_known o key then unknown_in o rest else key ∷ unknown_in o rest
+unknown_in o (member key value rest) = if is_known o key value then unknown_in o rest else key ∷ unknown_in o rest
 
 -- ---- how they are named
-
--- a byte as it is shown
-abbrev pub shown : ℕ → ℕ
-shown b = if nat_lt b 33 || nat_lt 126 b then 63 else b
 
 -- the words that name whose a key is
 abbrev pub owner_words : Whose → List ℕ
 owner_words TheServer = []
+owner_words TheGroups = codes ", groups"
+owner_words (TheGroup name) = codes ", group " ++ map shown name
 owner_words (TheStation number s) = codes ", station " ++ decimal number ++ 32 ∷ s.network ++ 32 ∷ s.code
 
 -- the question whether another key was meant
@@ -53,9 +63,15 @@ abbrev pub question : Option (List ℕ) → List ℕ
 question None = []
 question (Some near) = codes "; did you mean " ++ near ++ codes "?"
 
--- the same for the nearest of those that there are
+-- what a key may be that is known with another value, or else that question
+abbrev pub hint_by : Option Key → Option (List ℕ) → List ℕ
+hint_by None near = question near
+hint_by (Some k) near = codes "; it is " ++ (row_of k).limits
+
+-- the same of those that there are
 abbrev pub hint : Whose → List ℕ → List ℕ
-hint o key = question (nearest key (map name_of (keys_of o)))
+hint TheGroups key = codes "; it is a text, an access list"
+hint o key = hint_by (find (λ k. bytes_eq key (name_of k)) (keys_of o)) (nearest key (map name_of (keys_of o)))
 
 -- the line of a key, with its end
 abbrev pub key_line : Whose → List ℕ → List ℕ
@@ -64,10 +80,6 @@ key_line o key = codes "seedlinkd: unknown key " ++ map shown key ++ owner_words
 -- the lines of a table's keys
 abbrev pub owner_lines : Whose → Members → List ℕ
 owner_lines o members = flat_map (key_line o) (unknown_in o members)
-
--- the table of the station at a place
-abbrev pub station_table : Members → ℕ → Option Members
-station_table keys place = option_and_then as_table (option_and_then (at place) (get_member (codes "station") keys))
 
 -- the lines of a station's keys
 abbrev pub lines_if : Whose → Option Members → List ℕ
@@ -84,7 +96,8 @@ stations_from keys place (s ∷ ss) = station_lines keys place s ++ stations_fro
 
 -- the lines of all keys that are not known
 abbrev pub unknown_text : Members → List Station → List ℕ
-unknown_text keys ss = owner_lines TheServer keys ++ stations_from keys 0 ss
+unknown_text keys ss =
+    owner_lines TheServer keys ++ lines_if TheGroups (groups_of keys) ++ stations_from keys 0 ss
 
 -- ---- at most so many
 

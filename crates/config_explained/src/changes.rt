@@ -14,8 +14,8 @@ ghost use Rattle.config_explained.specs.NetworkTexts.{network_text};
 use crate::config_text::ConfigText;
 use crate::coverage::{Coverage, coverage_of};
 use crate::gains::gains;
-use crate::holders::list_at;
 use crate::lines::put;
+use crate::lists::meant_at;
 use crate::network::Network;
 use crate::network_text::put_network;
 use crate::opened::networks_of;
@@ -32,11 +32,11 @@ const EVERYTHING: Network = Network {
 };
 
 /// The networks that a list admits; all addresses if there is no list.
-fn admitted_by(alloc: Global, list: Option<&[u8]>) -> Result<Vec<Network>, AllocError>
-    ensures { IfOk result (λ networks. networks.items ≡ admitted_by (option_map (λ l. l.now) list.entry)) }
+fn admitted_by(alloc: Global, list: &Option<Vec<u8>>) -> Result<Vec<Network>, AllocError>
+    ensures { IfOk result (λ networks. networks.items ≡ admitted_by (option_map (λ l. l.items) list.now)) }
 {
     match list {
-        Some(list) => networks_of(alloc, list),
+        Some(list) => networks_of(alloc, list.as_slice()),
         None => [EVERYTHING].to_vec(alloc),
     }
 }
@@ -46,7 +46,10 @@ fn admitted(alloc: Global, table: &Table, place: Option<usize>) -> Result<Vec<Ne
     ensures { IfOk result (λ networks. networks.items ≡ admitted (table_view table.now) place) }
 {
     match place {
-        Some(place) => admitted_by(alloc, list_at(table, place)),
+        Some(place) => {
+            let list = meant_at(alloc, table, place)?;
+            admitted_by(alloc, &list)
+        }
         None => Ok(Vec::new(alloc)),
     }
 }

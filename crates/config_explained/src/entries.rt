@@ -34,14 +34,14 @@ fn put_entries(text: &mut Vec<u8>, list: &[u8]) -> Result<(), AllocError>
 
 /// Whom a list admits: its entries, or nobody where it has none; `-` where there is no list, so that everybody is
 /// admitted.
-pub(crate) fn put_list(text: &mut Vec<u8>, list: Option<&[u8]>) -> Result<(), AllocError>
-    ensures { OnOk result (text.new.items ≡ text.old.items ++ list_words (option_map (λ l. l.now) list.entry)) }
+pub(crate) fn put_list(text: &mut Vec<u8>, list: &Option<Vec<u8>>) -> Result<(), AllocError>
+    ensures { OnOk result (text.new.items ≡ text.old.items ++ list_words (option_map (λ l. l.items) list.now)) }
 {
     match list {
         None => put_word(text, b"-"),
         Some(list) => {
             let before = text.len();
-            put_entries(text, list)?;
+            put_entries(text, list.as_slice())?;
             if text.len() == before {
                 put_word(text, b"nobody")
             } else {

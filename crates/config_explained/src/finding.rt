@@ -3,9 +3,8 @@ ghost use Rattle.std.specs.Prelude.{◌≡◌, ◌≤◌, length, option_and_the
 ghost use Rattle.std.specs.Str.{IsUtf8};
 ghost use Rattle.toml.specs.Parse.{parse_document};
 ghost use Rattle.toml.specs.View.{table_view};
-ghost use Rattle.access_list.specs.Tokens.{first_refused};
 ghost use Rattle.config_explained.specs.Findings.{Finds, FindsEntry, FindsKind, FindsText, FindsToml, IsEntry};
-ghost use Rattle.config_explained.specs.Findings.{IsNotUtf8, text_at};
+ghost use Rattle.config_explained.specs.Findings.{IsNotUtf8, refused_in, text_at};
 
 use crate::kind::ValueKind;
 use crate::place::{TextPlace, line_from, place_of};
@@ -13,7 +12,7 @@ use crate::setting_texts::wanted_of;
 use crate::values::value_at;
 use access_list::AccessList;
 use catalog::keys::table_of;
-use catalog::{ConfigError, ConfigFault, Step};
+use catalog::{ConfigError, ConfigFault, Groups, Step};
 use shown_lines::put_line;
 use std::alloc::{AllocError, Global};
 use std::fmt::{self, Display, Formatter, Write};
@@ -150,18 +149,27 @@ pub fn text_at<'a>(table: &'a Table, step: Step) -> Option<&'a [u8]>
     }
 }
 
+/// The first entry of a list that is refused, among those that it means.
+fn refused_in(alloc: Global, table: &Table, list: &[u8]) -> Result<Option<Vec<u8>>, AllocError>
+    ensures { IfOk result (λ entry. option_map (λ e. e.items) entry ≡ refused_in (table_view table.now) list.now) }
+{
+    let meant = Groups::of(table).list_meant(alloc, list)?;
+    match AccessList::refused_entry(meant.as_slice()) {
+        Some(entry) => Ok(Some(entry.to_vec(alloc)?)),
+        None => Ok(None),
+    }
+}
+
 /// The first entry of the access list at a step of a table that is refused.
 fn entry_in(alloc: Global, table: &Table, step: Step) -> Result<ConfigFinding, AllocError>
-    ensures { IfOk result (IsEntry (option_and_then first_refused (text_at (table_view table.now) step))) }
+    ensures { IfOk result (IsEntry (option_and_then (refused_in (table_view table.now))
+        (text_at (table_view table.now) step))) }
 {
-    let entry = match text_at(table, step) {
-        Some(text) => AccessList::refused_entry(text),
-        None => None,
+    let Some(list) = text_at(table, step) else {
+        return Ok(ConfigFinding::Nothing);
     };
-    match entry {
-        Some(entry) => Ok(ConfigFinding::Entry {
-            text: entry.to_vec(alloc)?,
-        }),
+    match refused_in(alloc, table, list)? {
+        Some(text) => Ok(ConfigFinding::Entry { text }),
         None => Ok(ConfigFinding::Nothing),
     }
 }
@@ -187,8 +195,19 @@ impl Display for ConfigFinding {
             ConfigFinding::OtherKind { found, wanted } => {
                 writeln!(f, "  found: {found}\n  wanted: {wanted}")
             }
-            ConfigFinding::Entry { text } => put_text(f, "entry", text),
+            ConfigFinding::Entry { text } => {
+                put_text(f, "entry", text)?;
+                put_no_group(f, text)
+            }
         }
+    }
+}
+
+/// The line that says of an entry that looks like the name of a group that there is none.
+fn put_no_group<W: Write>(f: &mut Formatter<W>, text: &Vec<u8>) -> fmt::Result {
+    match text.first() {
+        Some(b'@') => put_line(f, "reason", "no text of the table groups has this name"),
+        _ => Ok(()),
     }
 }
 

@@ -4,30 +4,23 @@ ghost use Rattle.config_explained.specs.ConfigTexts.{keys_of};
 ghost use Rattle.toml.specs.View.{table_view};
 ghost use Rattle.protocol.specs.Catalog.{stations_of};
 ghost use Rattle.config_explained.specs.Holders.{holder_at, holder_line, holder_text, holders_from, holders_text};
-ghost use Rattle.config_explained.specs.Holders.{list_at};
 
 use crate::config_text::ConfigText;
 use crate::entries::put_list;
-use crate::finding::text_at;
 use crate::lines::put;
-use catalog::{Station, StationStep, Step};
+use crate::lists::shown_at;
+use catalog::Station;
 use std::alloc::{AllocError, Global};
 use toml::Table;
 
-/// The text of the list that holds for the station at a place: its own, or the server's.
-pub(crate) fn list_at<'a>(table: &'a Table, place: usize) -> Option<&'a [u8]>
-    ensures { option_map (λ l. l.now) result ≡ list_at (table_view table.now) place }
-{
-    match text_at(table, Step::Station(place, StationStep::Access)) {
-        Some(own) => Some(own),
-        None => text_at(table, Step::Access),
-    }
-}
-
 /// The line of a station: its network, its code, and whom the list admits that holds for it.
-fn put_holders(text: &mut Vec<u8>, station: &Station, list: Option<&[u8]>) -> Result<(), AllocError>
+fn put_holders(
+    text: &mut Vec<u8>,
+    station: &Station,
+    list: &Option<Vec<u8>>,
+) -> Result<(), AllocError>
     ensures { OnOk result (text.new.items
-        ≡ text.old.items ++ holder_line station.now.station (option_map (λ l. l.now) list.entry)) }
+        ≡ text.old.items ++ holder_line station.now.station (option_map (λ l. l.items) list.now)) }
 {
     put(text, station.network())?;
     put(text, b" ")?;
@@ -38,29 +31,37 @@ fn put_holders(text: &mut Vec<u8>, station: &Station, list: Option<&[u8]>) -> Re
 
 /// The lines of all stations.
 #[tactic(auto, using(crate::proofs::HolderLemmas::holder_lemmas))]
-fn put_all(text: &mut Vec<u8>, stations: &[Station], table: &Table) -> Result<(), AllocError>
+fn put_all(
+    alloc: Global,
+    text: &mut Vec<u8>,
+    stations: &[Station],
+    table: &Table,
+) -> Result<(), AllocError>
     ensures { OnOk result (text.new.items ≡ text.old.items
         ++ holders_from (table_view table.now) 0 (map (λ e. e.station) stations.now)) }
 {
     for (place, station) in stations.iter().enumerate() {
-        put_holders(text, station, list_at(table, place))?;
+        let list = shown_at(alloc, table, place)?;
+        put_holders(text, station, &list)?;
     }
     Ok(())
 }
 
 /// All stations of a configuration, in order, a line each: its network, its code, and the entries of the access list
-/// that holds for it, as they stand in the configuration's text: its own list, else the server's. A list without an
-/// entry admits `nobody`; `-` stands where no list holds, so that everybody may use the station. Only memory can lack.
+/// that holds for it, as they stand in the configuration's text: its own list, else the server's. In the place of `@` and
+/// the name of a group the group's entries stand, each with `@` and that name behind it. A list without an entry admits
+/// `nobody`; `-` stands where no list holds, so that everybody may use the station. Only memory can lack.
 pub fn holders_of(alloc: Global, read: &ConfigText) -> Result<Vec<u8>, AllocError>
     ensures { IfOk result (λ lines. lines.items ≡ holders_text (keys_of read.now.text) (stations_of read.now.config)) }
 {
     let mut lines = Vec::new(alloc);
-    put_all(&mut lines, read.config().stations(), read.table())?;
+    put_all(alloc, &mut lines, read.config().stations(), read.table())?;
     Ok(lines)
 }
 
 /// The line of the station at a place, if there is one.
 fn put_at(
+    alloc: Global,
     text: &mut Vec<u8>,
     stations: &[Station],
     table: &Table,
@@ -70,7 +71,10 @@ fn put_at(
         ++ holder_at (table_view table.now) place (option_map (λ e. e.station) (slice_get stations.now place))) }
 {
     match stations.get(place) {
-        Some(station) => put_holders(text, station, list_at(table, place)),
+        Some(station) => {
+            let list = shown_at(alloc, table, place)?;
+            put_holders(text, station, &list)
+        }
         None => Ok(()),
     }
 }
@@ -91,6 +95,6 @@ pub fn holder_of(
         return Ok(None);
     };
     let mut line = Vec::new(alloc);
-    put_at(&mut line, config.stations(), read.table(), place)?;
+    put_at(alloc, &mut line, config.stations(), read.table(), place)?;
     Ok(Some(line))
 }

@@ -1,13 +1,17 @@
 //! The keys of a configuration: the one table of their names, kinds and limits, of what holds without them, and of the
 //! values that a station has of them.
 ghost use Rattle.std.specs.Prelude.{◌≡◌, IfOk, None, Some, option_map};
-ghost use Rattle.config_explained.specs.KeyTable.{ReadsTheTable, key_at, name_of, row_of, setting_of, station_key_at};
+ghost use Rattle.toml.specs.View.{view};
+ghost use Rattle.config_explained.specs.KeyTable.{ReadsTheTable, key_at, may_be, name_of, row_of, setting_of};
+ghost use Rattle.config_explained.specs.KeyTable.{station_key_at};
 ghost use Rattle.config_explained.specs.SettingValues.{is_same_value, setting_value};
 
 use crate::kind::ValueKind;
 use crate::setting::Setting;
+use crate::silence::silence_in;
 use catalog::{Station, StationStep, Step};
 use std::alloc::{AllocError, Global};
+use toml::Value;
 
 /// A key of the whole server, or of a station.
 #[derive(Clone, Copy, Drop)]
@@ -22,24 +26,30 @@ pub enum Key {
     Capacity,
     First,
     Access,
+    /// Of the whole server: the access lists that have a name.
+    Groups,
+    /// Of a station: how long it may be silent.
+    Silent,
 }
 
 /// The keys of the whole server.
-pub(crate) static SERVER_KEYS: [Key; 4] = [
+pub(crate) static SERVER_KEYS: [Key; 5] = [
     Key::Title,
     Key::ServerAccess,
     Key::MaxConnections,
+    Key::Groups,
     Key::Station,
 ];
 
 /// The keys of a station.
-pub(crate) static STATION_KEYS: [Key; 6] = [
+pub(crate) static STATION_KEYS: [Key; 7] = [
     Key::Network,
     Key::Code,
     Key::Description,
     Key::Capacity,
     Key::First,
     Key::Access,
+    Key::Silent,
 ];
 
 /// The steps that take the keys of a station.
@@ -150,6 +160,29 @@ impl Key {
                 LIST_LIMITS,
                 "the list of the whole server holds",
             ),
+            Key::Groups => optional(
+                "groups",
+                ValueKind::Table,
+                "a table of texts, each an access list with a name",
+                "an access list names no group",
+            ),
+            Key::Silent => optional(
+                "silent",
+                ValueKind::WholeNumber,
+                "a whole number of seconds from 0 to 1000000000, where 0 is never",
+                "the seconds of --silent",
+            ),
+        }
+    }
+
+    /// Whether a value is one that it may have. Any value of a key that the reading takes is: the reading judges it.
+    pub(crate) fn may_be(self, value: &Value) -> bool
+        ensures { result ≡ may_be self (view value.now) }
+    {
+        match self {
+            Key::Groups => value.is_table(),
+            Key::Silent => silence_in(value).is_some(),
+            _ => true,
         }
     }
 

@@ -8,7 +8,7 @@ ghost use Rattle.access_list.specs.Tokens.{is_separator};
 ghost use Rattle.config_explained.specs.Opened.{is_open, is_whole, networks_of, opened_count, opened_from};
 
 use crate::config_text::ConfigText;
-use crate::holders::list_at;
+use crate::lists::meant_at;
 use crate::network::Network;
 use access_list::list::is_separator;
 use catalog::Station;
@@ -41,13 +41,13 @@ fn has_whole(networks: &[Network]) -> bool
 }
 
 /// Whether no list holds, or one with an entry that admits everybody.
-fn is_open(alloc: Global, list: Option<&[u8]>) -> Result<bool, AllocError>
-    ensures { IfOk result (λ answer. answer ≡ is_open (option_map (λ l. l.now) list.entry)) }
+fn is_open(alloc: Global, list: &Option<Vec<u8>>) -> Result<bool, AllocError>
+    ensures { IfOk result (λ answer. answer ≡ is_open (option_map (λ l. l.items) list.now)) }
 {
     match list {
         None => Ok(true),
         Some(list) => {
-            let networks = networks_of(alloc, list)?;
+            let networks = networks_of(alloc, list.as_slice())?;
             Ok(has_whole(networks.as_slice()))
         }
     }
@@ -61,7 +61,8 @@ fn count_open(alloc: Global, stations: &[Station], table: &Table) -> Result<usiz
 {
     let mut count = 0;
     for (place, _station) in stations.iter().enumerate() {
-        if is_open(alloc, list_at(table, place))? {
+        let list = meant_at(alloc, table, place)?;
+        if is_open(alloc, &list)? {
             count += 1;
         }
     }

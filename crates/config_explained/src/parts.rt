@@ -7,8 +7,8 @@ ghost use Rattle.config_explained.specs.Parts.{part_line, part_of, part_words, p
 
 use crate::config_text::ConfigText;
 use crate::coverage::{Coverage, coverage_of};
-use crate::holders::list_at;
 use crate::lines::put;
+use crate::lists::meant_at;
 use crate::network::Network;
 use crate::opened::networks_of;
 use catalog::Station;
@@ -16,13 +16,13 @@ use std::alloc::{AllocError, Global};
 use toml::Table;
 
 /// How much of a network a list admits: all of it if there is no list.
-fn part_of(alloc: Global, list: Option<&[u8]>, network: Network) -> Result<Coverage, AllocError>
-    ensures { IfOk result (λ part. part ≡ part_of (option_map (λ l. l.now) list.entry) network) }
+fn part_of(alloc: Global, list: &Option<Vec<u8>>, network: Network) -> Result<Coverage, AllocError>
+    ensures { IfOk result (λ part. part ≡ part_of (option_map (λ l. l.items) list.now) network) }
 {
     match list {
         None => Ok(Coverage::Whole),
         Some(list) => {
-            let networks = networks_of(alloc, list)?;
+            let networks = networks_of(alloc, list.as_slice())?;
             Ok(coverage_of(networks.as_slice(), network))
         }
     }
@@ -63,7 +63,8 @@ fn put_parts(
         ++ parts_from (table_view table.now) network 0 (map (λ e. e.station) stations.now)) }
 {
     for (place, station) in stations.iter().enumerate() {
-        let part = part_of(alloc, list_at(table, place), network)?;
+        let list = meant_at(alloc, table, place)?;
+        let part = part_of(alloc, &list, network)?;
         put_part(text, station, part)?;
     }
     Ok(())

@@ -1,7 +1,10 @@
 //! Entries of access lists that admit something else than their text looks like.
 ghost use Rattle.std.specs.Prelude.{◌≡◌, ◌≤◌, ◌++◌, ◌<◌, ◌^◌, IfOk, OnOk, map, option_map};
 ghost use Rattle.config_explained.specs.ConfigTexts.{keys_of};
-ghost use Rattle.toml.specs.View.{table_view};
+ghost use Rattle.toml.specs.Data.{as_str};
+ghost use Rattle.toml.specs.View.{table_view, view};
+ghost use Rattle.config_explained.specs.Remarks.{groups_remarks, groups_remarks_if};
+ghost use Rattle.config_explained.specs.Unknown.Whose.{TheGroup};
 ghost use Rattle.protocol.specs.Catalog.{stations_of};
 ghost use Rattle.access_list.specs.Tokens.{is_separator};
 ghost use Rattle.config_explained.specs.Remarks.{entry_remark, has_leading_ones, list_remarks, remark_line, remark_of};
@@ -15,9 +18,9 @@ use crate::lines::put;
 use crate::network::{Network, ones};
 use crate::owner::Owner;
 use access_list::list::is_separator;
-use catalog::{Station, StationStep, Step};
+use catalog::{Groups, Station, StationStep, Step};
 use std::alloc::{AllocError, Global};
-use toml::Table;
+use toml::{Table, Value};
 
 /// What an entry of an access list admits that its text doesn't show.
 #[derive(Clone, Copy, Drop)]
@@ -132,6 +135,38 @@ fn put_if(text: &mut Vec<u8>, list: Option<&[u8]>, owner: Owner<'_>) -> Result<(
     }
 }
 
+/// The lines of a group's list.
+fn put_group(text: &mut Vec<u8>, name: &str, value: &Value) -> Result<(), AllocError>
+    ensures { OnOk result (text.new.items
+        ≡ text.old.items ++ remarks_if (TheGroup name.now) (as_str (view value.now))) }
+{
+    match value.as_str() {
+        Some(list) => put_list_remarks(text, list.as_bytes(), Owner::Group(name)),
+        None => Ok(()),
+    }
+}
+
+/// The lines of all groups.
+fn put_groups(text: &mut Vec<u8>, groups: &Table) -> Result<(), AllocError>
+    ensures { OnOk result (text.new.items ≡ text.old.items ++ groups_remarks (table_view groups.now)) }
+{
+    for (name, value) in groups.iter() {
+        put_group(text, name.as_str(), value)?;
+    }
+    Ok(())
+}
+
+/// The lines of all groups, if there are any.
+fn put_groups_if(text: &mut Vec<u8>, groups: Option<&Table>) -> Result<(), AllocError>
+    ensures { OnOk result (text.new.items
+        ≡ text.old.items ++ groups_remarks_if (option_map (λ t. table_view t.now) groups.entry)) }
+{
+    match groups {
+        Some(groups) => put_groups(text, groups),
+        None => Ok(()),
+    }
+}
+
 /// The lines of a station's own list.
 fn put_station(
     text: &mut Vec<u8>,
@@ -160,7 +195,8 @@ fn put_stations(text: &mut Vec<u8>, stations: &[Station], table: &Table) -> Resu
 }
 
 /// The entries of a configuration's access lists that admit something else than their text looks like, a line each:
-/// first those of the server's list, then those of each station's own, with its number, from 1 on, and its codes. An
+/// first those of the server's list, then those of each group, by the bytes of their names, and then those of each
+/// station's own, with its number, from 1 on, and its codes. An
 /// entry is named if it admits everybody, if it is `0.0.0.0` alone, if the ones of its mask are not on the left, or if
 /// its address has bits outside its mask. Only memory can lack.
 pub fn remarks(alloc: Global, read: &ConfigText) -> Result<Vec<u8>, AllocError>
@@ -169,6 +205,7 @@ pub fn remarks(alloc: Global, read: &ConfigText) -> Result<Vec<u8>, AllocError>
     let table = read.table();
     let mut lines = Vec::new(alloc);
     put_if(&mut lines, text_at(table, Step::Access), Owner::Server)?;
+    put_groups_if(&mut lines, Groups::of(table).table())?;
     put_stations(&mut lines, read.config().stations(), table)?;
     Ok(lines)
 }

@@ -1,17 +1,19 @@
 //! The keys that are not known.
-ghost use Rattle.std.specs.Prelude.{◌≡◌, ◌<◌, ◌^◌, ◌++◌, IfOk, OnOk, map, option_map};
+ghost use Rattle.std.specs.Prelude.{◌≡◌, ◌<◌, ◌^◌, ◌++◌, IfOk, OnOk, map};
 ghost use Rattle.config_explained.specs.ConfigTexts.{keys_of};
 ghost use Rattle.toml.specs.View.{table_view};
 ghost use Rattle.protocol.specs.Catalog.{stations_of};
-ghost use Rattle.config_explained.specs.Unknown.{owner_lines, station_lines, station_table, stations_from};
+ghost use Rattle.catalog.specs.Groups.{groups_of};
+ghost use Rattle.config_explained.specs.Unknown.{lines_if, owner_lines, station_lines, stations_from};
+ghost use Rattle.config_explained.specs.Unknown.Whose.{TheGroups};
 ghost use Rattle.config_explained.specs.Unknown.{named, unknown_text, whose};
 
 use crate::config_text::ConfigText;
 use crate::first_lines::keep_first;
 use crate::key_lines::put_line;
 use crate::owner::Owner;
-use crate::values::value_of;
-use catalog::Station;
+use crate::tables::station_table;
+use catalog::{Groups, Station};
 use std::alloc::{AllocError, Global};
 use toml::Table;
 
@@ -24,25 +26,23 @@ fn put_unknown(
 ) -> Result<(), AllocError>
     ensures { OnOk result (text.new.items ≡ text.old.items ++ owner_lines (whose owner.entry) (table_view table.now)) }
 {
-    for (key, _value) in table.iter() {
+    for (key, value) in table.iter() {
         let name = key.as_str();
-        if !owner.knows(name) {
+        if !owner.knows(name, value) {
             put_line(alloc, text, name, owner)?;
         }
     }
     Ok(())
 }
 
-/// The table of the station at a place.
-fn station_table<'a>(table: &'a Table, place: usize) -> Option<&'a Table>
-    ensures { option_map (λ t. table_view t.now) result ≡ station_table (table_view table.now) place }
+/// The lines of the groups that are no texts.
+fn put_groups(alloc: Global, text: &mut Vec<u8>, table: &Table) -> Result<(), AllocError>
+    ensures { OnOk result (text.new.items
+        ≡ text.old.items ++ lines_if TheGroups (groups_of (table_view table.now))) }
 {
-    match value_of(table, "station") {
-        Some(stations) => match stations.get(place) {
-            Some(station) => station.as_table(),
-            None => None,
-        },
-        None => None,
+    match Groups::of(table).table() {
+        Some(groups) => put_unknown(alloc, text, groups, Owner::Groups),
+        None => Ok(()),
     }
 }
 
@@ -81,8 +81,8 @@ fn put_stations(
     Ok(())
 }
 
-/// The keys of a configuration's text that are not known, which reading it ignores, a line each: first those of the
-/// whole server, then those of each station with its number, from 1 on, and its codes; those of one table in the order
+/// The keys of a configuration's text that are not known, or have a value that they may not have though reading it
+/// ignores that, a line each: first those of the whole server, then groups that are no text, then those of each station with its number, from 1 on, and its codes; those of one table in the order
 /// of their bytes. Bytes of a key that are not visible ones of ASCII stand there as `?`. At most 64 keys are named; if
 /// there are more, one more line says how many. It fails only if memory can't be allocated.
 pub fn unknown_keys(alloc: Global, read: &ConfigText) -> Result<Vec<u8>, AllocError>
@@ -92,6 +92,7 @@ pub fn unknown_keys(alloc: Global, read: &ConfigText) -> Result<Vec<u8>, AllocEr
     let table = read.table();
     let mut lines = Vec::new(alloc);
     put_unknown(alloc, &mut lines, table, Owner::Server)?;
+    put_groups(alloc, &mut lines, table)?;
     put_stations(alloc, &mut lines, read.config().stations(), table)?;
     keep_first(&mut lines)?;
     Ok(lines)

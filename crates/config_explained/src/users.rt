@@ -7,20 +7,20 @@ ghost use Rattle.config_explained.specs.Users.{users_from, users_text, users_tex
 
 use crate::config_text::ConfigText;
 use crate::entries::put_list;
-use crate::holders::list_at;
+use crate::lists::shown_at;
 use catalog::Station;
 use std::alloc::{AllocError, Global};
 use toml::Table;
 
 /// Whom a list admits.
-fn users_in(alloc: Global, list: Option<&[u8]>) -> Result<Vec<u8>, AllocError>
-    ensures { IfOk result (λ text. text.items ≡ users_text (option_map (λ l. l.now) list.entry)) }
+fn users_in(alloc: Global, list: &Option<Vec<u8>>) -> Result<Vec<u8>, AllocError>
+    ensures { IfOk result (λ text. text.items ≡ users_text (option_map (λ l. l.items) list.now)) }
 {
     match list {
         None => Vec::from_slice(alloc, b"everybody"),
-        Some(list) => {
+        Some(_) => {
             let mut words = Vec::new(alloc);
-            put_list(&mut words, Some(list))?;
+            put_list(&mut words, list)?;
             let (_space, text) = words.as_slice().split_at(words.len().min(1));
             Vec::from_slice(alloc, text)
         }
@@ -35,14 +35,15 @@ fn users_at(alloc: Global, stations: &[Station], table: &Table) -> Result<Vec<Ve
 {
     let mut texts = Vec::new(alloc);
     for (place, _station) in stations.iter().enumerate() {
-        let text = users_in(alloc, list_at(table, place))?;
-        texts.push(text)?;
+        let list = shown_at(alloc, table, place)?;
+        texts.push(users_in(alloc, &list)?)?;
     }
     Ok(texts)
 }
 
 /// Who may use each station of a configuration, in order: the entries of the access list that holds for it, as they stand
-/// in the configuration's text, with a space between two: its own list, else the server's. A list without an entry admits
+/// in the configuration's text, with a space between two: its own list, else the server's; those of a group have `@` and
+/// its name behind them. A list without an entry admits
 /// `nobody`; without a list `everybody` may use the station. Only memory can lack.
 pub fn users_of(alloc: Global, read: &ConfigText) -> Result<Vec<Vec<u8>>, AllocError>
     ensures { IfOk result (λ texts.

@@ -1,19 +1,12 @@
 //! The values that the steps of the reading of a configuration look at.
 ghost use Rattle.std.specs.Prelude.{◌≡◌, option_map};
-ghost use Rattle.toml.specs.Data.{get_member};
 ghost use Rattle.toml.specs.View.{table_view, view};
 ghost use Rattle.config_explained.specs.Values.{member_by, setting_at, station_at, value_at};
 
 use crate::key::{Key, key_at, station_key_at};
+use crate::tables::value_of;
 use catalog::{StationStep, Step};
 use toml::{Table, Value};
-
-/// The value at a key.
-pub(crate) fn value_of<'a>(table: &'a Table, key: &str) -> Option<&'a Value>
-    ensures { option_map (λ v. view v.now) result ≡ get_member key.now (table_view table.now) }
-{
-    table.get(key)
-}
 
 /// The element of `station` at a place.
 fn station_at<'a>(table: &'a Table, place: usize) -> Option<&'a Value>

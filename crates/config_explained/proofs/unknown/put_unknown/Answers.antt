@@ -12,13 +12,13 @@ loop-key-preserved-in-Continue-1 c =
     let key : List ℕ = string_bytes c.in-Some.key.now in
     let text : List ℕ = c.loop-key.text.items in
     let rest = members_view c.next.new.self in
-    let left = rest_more deref_pair _ _ _ (c.in-Some.key, c.in-Some._value) c.in-Some.is c.next.ensures.steps in
-    let no : is_known o key ≡ false =
+    let left = rest_more deref_pair _ _ _ (c.in-Some.key, c.in-Some.value) c.in-Some.is c.next.ensures.steps in
+    let no : is_known o key (view c.in-Some.value.now) ≡ false =
     rw c.as_str-name.ensures.value at (sym c.knows.ensures ∙ c.if-not-knows.true) in
     let put : c.put_line.new.text.items ≡ text ++ key_line o key =
     rw c.as_str-name.ensures.value at c.in_ok-put_line.ensures in
     c.loop-key.invariant
     ∙ ap (λ es. text ++ owner_lines o (members_view es)) left
-    ∙ ap (λ l. text ++ l) (unknown o key (view c.in-Some._value.now) rest no)
+    ∙ ap (λ l. text ++ l) (unknown o key (view c.in-Some.value.now) rest no)
     ∙ sym (append_assoc text (key_line o key) (owner_lines o rest))
     ∙ ap (λ t. t ++ owner_lines o rest) (sym put)

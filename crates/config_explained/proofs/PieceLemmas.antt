@@ -1,0 +1,23 @@
+-- A text for each piece of a list, one after the other.
+use Rattle.std.proofs.Common.{◌≡◌, ℕ, ◌+◌, ◌<◌, List, ◌∷◌, [], ◌++◌, length, drop, get_or, flat_map, sym, ap, ◌∙◌}
+use Rattle.std.proofs.Common.{append_assoc, append-nil, add-one, drop-cons}
+
+-- the texts of the pieces that are left
+abbrev pub pieces_left : (List ℕ → List ℕ) → List (List ℕ) → ℕ → List ℕ
+pieces_left f ps k = flat_map f (drop k ps)
+
+at_hand : (ps : List (List ℕ)) (k : ℕ) (w : List ℕ) → k < length ps → w ≡ get_or ps k w
+    → drop k ps ≡ w ∷ drop (k + 1) ps
+at_hand ps k w h e = rw (drop-cons ps k w h, ← e, add-one k)
+
+-- one piece more
+pub piece_more : (f : List ℕ → List ℕ) (ps : List (List ℕ)) (k : ℕ) (w all text : List ℕ) → k < length ps
+    → w ≡ get_or ps k w → all ≡ text ++ pieces_left f ps k → all ≡ (text ++ f w) ++ pieces_left f ps (k + 1)
+piece_more f ps k w all text h e so_far =
+    so_far ∙ ap (λ qs. text ++ flat_map f qs) (at_hand ps k w h e)
+    ∙ sym (append_assoc text (f w) (pieces_left f ps (k + 1)))
+
+-- no piece is left
+pub pieces_end : (f : List ℕ → List ℕ) (ps : List (List ℕ)) (k : ℕ) (all text : List ℕ) → drop k ps ≡ []
+    → all ≡ text ++ pieces_left f ps k → text ≡ all
+pieces_end f ps k all text none so_far = sym (so_far ∙ ap (λ qs. text ++ flat_map f qs) none ∙ append-nil text)

@@ -1,0 +1,55 @@
+use Rattle.std.proofs.lemmas.Grind.{common_steps}
+use Rattle.std.proofs.Common.{◌≡◌, ◌<◌, ◌++◌, ℕ, List, length, get_or, map, Option, Some, None, rules, tests, arith}
+use Rattle.std.proofs.lemmas.Iterator.{YieldsList}
+use Rattle.std.specs.Iterator.{Yields}
+use Rattle.std.proofs.lemmas.Iterator.Consumers.{YieldsList-turn, YieldsList-end, YieldsList-at}
+use Rattle.std.proofs.lemmas.Iterator.Splits.{YieldsList-from_slice_split}
+use Rattle.std.proofs.lemmas.List.{length_push, drop_all}
+use Rattle.toml.specs.View.{table_view}
+use Rattle.catalog.specs.Groups.{named_in}
+use Rattle.protocol.specs.Pieces.{split}
+use Rattle.access_list.specs.Tokens.{is_separator}
+use Rattle.config_explained.specs.Lists.{entry_shown, list_shown}
+use Rattle.config_explained.proofs.EntryLemmas.{pieces_are}
+use Rattle.config_explained.proofs.PieceLemmas.{piece_more, pieces_end}
+use Rattle.config_explained.proofs.lists.list_with_names.Goals as goal
+
+-- where the entry at hand stands, and at the end how many there were, by the steps first
+turn_of : {S A B : Type 0} {steps : S → Option A → S → Type 0} {v : A → B} {s : S} {all : List B} (xs : List A) (t : S)
+    (y : Yields steps s xs t) → (r : Option A) (u : S) (x : A) → r ≡ Some x → steps t r u
+    → (e : YieldsList steps v s all) → (length xs < length all) × (v x ≡ get_or all (length xs) (v x))
+turn_of xs t y r u x is step e = YieldsList-turn e xs t y r u x is step
+
+end_of : {S A B : Type 0} {steps : S → Option A → S → Type 0} {v : A → B} {s : S} {all : List B} (xs : List A) (t : S)
+    (y : Yields steps s xs t) → (r : Option A) (u : S) → r ≡ None → steps t r u → (e : YieldsList steps v s all)
+    → (map v xs ≡ all) × (length xs ≡ length all)
+end_of xs t y r u is step e = YieldsList-end e xs t y r u is step
+
+pub loop-entry-preserved : goal.loop-entry-preserved
+loop-entry-preserved c =
+    let list = c.args.list.now in
+    let turn = rw (pieces_are is_separator list) at
+    (turn_of c.loop-entry.yielded _ c.loop-entry.yielded_by _ _ c.in-Some.entry c.in-Some.is c.next.ensures.steps
+    (YieldsList-at c.into_iter-entry-iterator.ensures.into_iter_gives
+    (YieldsList-from_slice_split _ is_separator list c.split-entries.ensures.rest
+    c.split-entries.ensures.done c.split-entries.ensures.closure (λ x b q k. search (rules, tests))))) in
+    let f : List ℕ → List ℕ = (λ entry. entry_shown entry (named_in (table_view c.args.groups.now) entry)) in
+    let made : c.put_entry.new.text.items ≡ c.loop-entry.text.items ++ f c.in-Some.entry.now =
+    first_of (search rules, grind (arith, common_steps, c.put_entry.ensures, c.in_ok-put_entry.was)) in
+    rw (length_push c.loop-entry.yielded c.in-Some.entry, made)
+    (piece_more f (split is_separator list) (length c.loop-entry.yielded) c.in-Some.entry.now
+    (list_shown (Some (table_view c.args.groups.now)) list) c.loop-entry.text.items turn.0 turn.1 c.loop-entry.invariant)
+
+pub returns : goal.returns
+returns c =
+    let list = c.args.list.now in
+    let end = rw (pieces_are is_separator list) at
+    (end_of c.loop-entry.yielded _ c.loop-entry.yielded_by _ _ c.in-None.is c.next.ensures.steps
+    (YieldsList-at c.into_iter-entry-iterator.ensures.into_iter_gives
+    (YieldsList-from_slice_split _ is_separator list c.split-entries.ensures.rest
+    c.split-entries.ensures.done c.split-entries.ensures.closure (λ x b q k. search (rules, tests))))) in
+    let f : List ℕ → List ℕ = (λ entry. entry_shown entry (named_in (table_view c.args.groups.now) entry)) in
+    pieces_end f (split is_separator list) (length c.loop-entry.yielded)
+    (list_shown (Some (table_view c.args.groups.now)) list) c.loop-entry.text.items
+    (drop_all (length c.loop-entry.yielded) (split is_separator list) (omega (arith, end.1)))
+    c.loop-entry.invariant
