@@ -93,7 +93,7 @@ class Tables(kit.Test):
         self.assertEqual(listed, sorted(faults_of_sources()))
 
     def test_keys_of_a_configuration(self):
-        self.assertEqual(len(keys_of_page()), 10)
+        self.assertEqual(len(keys_of_page()), 12)
         self.assertEqual(keys_of_page(), keys_of_sources())
 
     def test_each_example_of_a_configuration_is_refused_with_the_fault_of_its_row(self):

@@ -1,6 +1,8 @@
 -- A text for each piece of a list, one after the other.
-use Rattle.std.proofs.Common.{◌≡◌, ℕ, ◌+◌, ◌<◌, List, ◌∷◌, [], ◌++◌, length, drop, get_or, flat_map, sym, ap, ◌∙◌}
+use Rattle.std.proofs.Common.{◌≡◌, ℕ, ◌+◌, ◌<◌, Bool, true, false, ◌||◌, List, ◌∷◌, [], ◌++◌, length, drop, get_or}
+use Rattle.std.proofs.Common.{flat_map, sym, ap, ◌∙◌}
 use Rattle.std.proofs.Common.{append_assoc, append-nil, add-one, drop-cons}
+use Rattle.std.specs.List.{list_any}
 
 -- the texts of the pieces that are left
 abbrev pub pieces_left : (List ℕ → List ℕ) → List (List ℕ) → ℕ → List ℕ
@@ -21,3 +23,23 @@ piece_more f ps k w all text h e so_far =
 pub pieces_end : (f : List ℕ → List ℕ) (ps : List (List ℕ)) (k : ℕ) (all text : List ℕ) → drop k ps ≡ []
     → all ≡ text ++ pieces_left f ps k → text ≡ all
 pieces_end f ps k all text none so_far = sym (so_far ∙ ap (λ qs. text ++ flat_map f qs) none ∙ append-nil text)
+
+-- ---- whether one is there
+
+-- among the pieces that are left
+abbrev pub has_left : (List ℕ → Bool) → List (List ℕ) → ℕ → Bool
+has_left p ps k = list_any p (drop k ps)
+
+-- the piece at hand is it
+pub has_found : (p : List ℕ → Bool) (ps : List (List ℕ)) (k : ℕ) (w : List ℕ) → k < length ps → w ≡ get_or ps k w
+    → p w ≡ true → has_left p ps k ≡ true
+has_found p ps k w h e found = ap (list_any p) (at_hand ps k w h e) ∙ ap (λ b. b || has_left p ps (k + 1)) found
+
+-- or it is not
+pub has_passed : (p : List ℕ → Bool) (ps : List (List ℕ)) (k : ℕ) (w : List ℕ) → k < length ps → w ≡ get_or ps k w
+    → p w ≡ false → has_left p ps k ≡ has_left p ps (k + 1)
+has_passed p ps k w h e passed = ap (list_any p) (at_hand ps k w h e) ∙ ap (λ b. b || has_left p ps (k + 1)) passed
+
+-- no piece is left
+pub has_end : (p : List ℕ → Bool) (ps : List (List ℕ)) (k : ℕ) → drop k ps ≡ [] → has_left p ps k ≡ false
+has_end p ps k none = ap (list_any p) none

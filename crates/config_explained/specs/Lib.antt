@@ -8,6 +8,7 @@ pub mod Values
 pub mod SettingTexts
 pub mod Findings
 pub mod Differences
+pub mod Naming
 pub mod Nearest
 pub mod ShownKeys
 pub mod Silences

@@ -1,35 +1,26 @@
 //! What a new configuration changes, and for whom.
-ghost use Rattle.std.specs.Prelude.{◌≡◌, ◌++◌, ◌∷◌, [], IfOk, OnOk, false, flat_map, map};
-ghost use Rattle.config_explained.specs.ConfigTexts.{keys_of};
-ghost use Rattle.std.specs.Prelude.{None, Some, option_map, true};
+ghost use Rattle.std.specs.Prelude.{◌≡◌, ◌++◌, None, Some, IfOk, OnOk, map, option_map};
 ghost use Rattle.toml.specs.View.{table_view};
-ghost use Rattle.protocol.specs.Catalog.{is_same_but_for_access};
-ghost use Rattle.config_explained.specs.Changes.{admission_by, admission_lines, admitted, admitted_by, change_line};
-ghost use Rattle.config_explained.specs.Changes.{changes_text, closing_words, is_everybody, network_line, new_lines};
-ghost use Rattle.config_explained.specs.Changes.{news_from, old_lines, olds_from, place_in, reason_line};
-ghost use Rattle.config_explained.specs.Changes.{refusal_line};
-ghost use Rattle.config_explained.specs.Holders.{words_of};
-ghost use Rattle.config_explained.specs.NetworkTexts.{network_text};
+ghost use Rattle.protocol.specs.Catalog.{is_same_but_for_access, stations_of};
+ghost use Rattle.catalog.specs.Groups.{groups_of};
+ghost use Rattle.config_explained.specs.Changes.{admission_lines, admitted, admitted_by, changes_text, groups_by};
+ghost use Rattle.config_explained.specs.Changes.{has_same_list, is_same_text, kept_lines, new_lines, news_from};
+ghost use Rattle.config_explained.specs.Changes.{old_lines, olds_from, place_in, reason_line, refusal_line};
+ghost use Rattle.config_explained.specs.Changes.{station_name};
+ghost use Rattle.config_explained.specs.ConfigTexts.{keys_of};
 
+use crate::admission::{EVERYTHING, put_admission, put_line};
 use crate::config_text::ConfigText;
-use crate::coverage::{Coverage, coverage_of};
-use crate::gains::gains;
+use crate::group_changes::put_group_changes;
 use crate::lines::put;
-use crate::lists::meant_at;
+use crate::lists::{list_at, meant_at};
 use crate::network::Network;
-use crate::network_text::put_network;
 use crate::opened::networks_of;
-use catalog::{Config, Station};
+use catalog::{Config, Groups, Station};
 use itoa::Buffer;
 use protocol::reason::Reason;
 use std::alloc::{AllocError, Global};
 use toml::Table;
-
-/// The network of all addresses.
-const EVERYTHING: Network = Network {
-    address: 0,
-    mask: 0,
-};
 
 /// The networks that a list admits; all addresses if there is no list.
 fn admitted_by(alloc: Global, list: &Option<Vec<u8>>) -> Result<Vec<Network>, AllocError>
@@ -54,133 +45,6 @@ fn admitted(alloc: Global, table: &Table, place: Option<usize>) -> Result<Vec<Ne
     }
 }
 
-/// Whether some networks together have all addresses.
-fn is_everybody(networks: &[Network]) -> bool
-    ensures { result ≡ is_everybody networks.now }
-{
-    matches!(coverage_of(networks, EVERYTHING), Coverage::Whole)
-}
-
-/// A line of a station.
-fn put_line(text: &mut Vec<u8>, station: &Station, words: &[u8]) -> Result<(), AllocError>
-    ensures { OnOk result (text.new.items ≡ text.old.items ++ change_line station.now.station words.now) }
-{
-    put(text, station.network())?;
-    put(text, b"_")?;
-    put(text, station.code())?;
-    put(text, words)?;
-    put(text, b"\n")
-}
-
-/// The words that tell who may still use a station after everybody could.
-fn put_closing_words(words: &mut Vec<u8>, networks: &[Network]) -> Result<(), AllocError>
-    ensures { OnOk result (words.new.items ≡ words.old.items ++ closing_words networks.now) }
-{
-    put(words, b" closes to everybody")?;
-    if networks.is_empty() {
-        return Ok(());
-    }
-    put(words, b" but")?;
-    put_networks(words, networks)
-}
-
-/// Networks, each after a space.
-fn put_networks(words: &mut Vec<u8>, networks: &[Network]) -> Result<(), AllocError>
-    ensures { OnOk result (words.new.items ≡ words.old.items ++ words_of (map network_text networks.now)) }
-{
-    for network in networks {
-        put(words, b" ")?;
-        put_network(words, *network)?;
-    }
-    Ok(())
-}
-
-/// A line of a station for a network.
-fn put_network_line(
-    alloc: Global,
-    text: &mut Vec<u8>,
-    station: &Station,
-    verb: &[u8],
-    network: Network,
-) -> Result<(), AllocError>
-    ensures { OnOk result (text.new.items
-        ≡ text.old.items ++ network_line station.now.station verb.now network) }
-{
-    let mut words = verb.to_vec(alloc)?;
-    put_network(&mut words, network)?;
-    put_line(text, station, words.as_slice())
-}
-
-/// A line of a station for each of some networks.
-fn put_network_lines(
-    alloc: Global,
-    text: &mut Vec<u8>,
-    station: &Station,
-    verb: &[u8],
-    networks: &[Network],
-) -> Result<(), AllocError>
-    ensures { OnOk result (text.new.items
-        ≡ text.old.items ++ flat_map (network_line station.now.station verb.now) networks.now) }
-{
-    for network in networks {
-        put_network_line(alloc, text, station, verb, *network)?;
-    }
-    Ok(())
-}
-
-/// The line of a station that everybody could use, and can't any more.
-fn put_closing(
-    alloc: Global,
-    text: &mut Vec<u8>,
-    station: &Station,
-    new: &[Network],
-) -> Result<(), AllocError>
-    ensures { OnOk result (text.new.items
-        ≡ text.old.items ++ admission_by true false station.now.station [] new.now) }
-{
-    let left = gains(alloc, &[], new)?;
-    let mut words = Vec::new(alloc);
-    put_closing_words(&mut words, left.as_slice())?;
-    put_line(text, station, words.as_slice())
-}
-
-/// The lines of a station that not everybody could use, and not everybody can.
-fn put_gains_and_losses(
-    alloc: Global,
-    text: &mut Vec<u8>,
-    station: &Station,
-    old: &[Network],
-    new: &[Network],
-) -> Result<(), AllocError>
-    ensures { OnOk result (text.new.items
-        ≡ text.old.items ++ admission_by false false station.now.station old.now new.now) }
-{
-    let gained = gains(alloc, old, new)?;
-    put_network_lines(alloc, text, station, b" gains ", gained.as_slice())?;
-    let lost = gains(alloc, new, old)?;
-    put_network_lines(alloc, text, station, b" loses ", lost.as_slice())
-}
-
-/// What changes of a station, by the networks that could use it and those that can.
-#[tactic(auto, unfolding(crate::specs::Changes::admission_lines))]
-fn put_admission(
-    alloc: Global,
-    text: &mut Vec<u8>,
-    station: &Station,
-    old: &[Network],
-    new: &[Network],
-) -> Result<(), AllocError>
-    ensures { OnOk result (text.new.items
-        ≡ text.old.items ++ admission_lines station.now.station old.now new.now) }
-{
-    match (is_everybody(old), is_everybody(new)) {
-        (true, true) => Ok(()),
-        (true, false) => put_closing(alloc, text, station, new),
-        (false, true) => put_line(text, station, b" opens to everybody"),
-        (false, false) => put_gains_and_losses(alloc, text, station, old, new),
-    }
-}
-
 /// The tables of two configurations.
 #[derive(Clone, Copy)]
 struct Tables<'a> {
@@ -195,21 +59,46 @@ fn place_in(config: &Config, station: &Station) -> Option<usize>
     config.place_of(station.network(), station.code())
 }
 
-/// What changes of a station, by its places in the old and the new configuration.
-fn put_admission_at(
+/// The name of a station, as NET_STA.
+fn station_name(alloc: Global, station: &Station) -> Result<Vec<u8>, AllocError>
+    ensures { IfOk result (λ name. name.items ≡ station_name station.now.station) }
+{
+    let mut name = station.network().to_vec(alloc)?;
+    put(&mut name, b"_")?;
+    put(&mut name, station.code())?;
+    Ok(name)
+}
+
+/// Whether two lists are the same text, or neither is there.
+fn is_same_text(list: Option<&[u8]>, other: Option<&[u8]>) -> bool
+    ensures { result ≡ is_same_text (option_map (λ l. l.now) list.entry) (option_map (λ l. l.now) other.entry) }
+{
+    match (list, other) {
+        (Some(list), Some(other)) => list == other,
+        (None, None) => true,
+        (_, _) => false,
+    }
+}
+
+/// What changes of a station that both configurations have, by its places there.
+fn put_kept(
     alloc: Global,
     text: &mut Vec<u8>,
     tables: &Tables<'_>,
     station: &Station,
-    old: Option<usize>,
-    new: Option<usize>,
+    place: usize,
+    other: usize,
 ) -> Result<(), AllocError>
-    ensures { OnOk result (text.new.items ≡ text.old.items ++ admission_lines station.now.station
-        (admitted (table_view tables.now.old.now) old) (admitted (table_view tables.now.new.now) new)) }
+    ensures { OnOk result (text.new.items ≡ text.old.items ++ kept_lines (table_view tables.now.old.now)
+        (table_view tables.now.new.now) place other station.now.station) }
 {
-    let old = admitted(alloc, tables.old, old)?;
-    let new = admitted(alloc, tables.new, new)?;
-    put_admission(alloc, text, station, old.as_slice(), new.as_slice())
+    if is_same_text(list_at(tables.old, place), list_at(tables.new, other)) {
+        return Ok(());
+    }
+    let name = station_name(alloc, station)?;
+    let old = admitted(alloc, tables.old, Some(place))?;
+    let new = admitted(alloc, tables.new, Some(other))?;
+    put_admission(alloc, text, name.as_slice(), old.as_slice(), new.as_slice())
 }
 
 /// What changes of a station of the old configuration, which is at that place there.
@@ -224,13 +113,13 @@ fn put_old(
     ensures { OnOk result (text.new.items ≡ text.old.items ++ old_lines (table_view tables.now.old.now)
         (table_view tables.now.new.now) place station.now.station (place_in new.now station.now.station)) }
 {
-    match place_in(new, station) {
-        Some(other) => put_admission_at(alloc, text, tables, station, Some(place), Some(other)),
-        None => {
-            put_line(text, station, b" is gone")?;
-            put_admission_at(alloc, text, tables, station, Some(place), None)
-        }
+    if let Some(other) = place_in(new, station) {
+        return put_kept(alloc, text, tables, station, place, other);
     }
+    let name = station_name(alloc, station)?;
+    put_line(text, name.as_slice(), b" is gone")?;
+    let old = admitted(alloc, tables.old, Some(place))?;
+    put_admission(alloc, text, name.as_slice(), old.as_slice(), &[])
 }
 
 /// The lines of a station of the new configuration, which is at that place there, if the old one does not have it.
@@ -245,13 +134,13 @@ fn put_new(
     ensures { OnOk result (text.new.items ≡ text.old.items ++ new_lines (table_view tables.now.new.now)
         place station.now.station (place_in old.now station.now.station)) }
 {
-    match place_in(old, station) {
-        Some(_) => Ok(()),
-        None => {
-            put_line(text, station, b" is new")?;
-            put_admission_at(alloc, text, tables, station, None, Some(place))
-        }
+    if place_in(old, station).is_some() {
+        return Ok(());
     }
+    let name = station_name(alloc, station)?;
+    put_line(text, name.as_slice(), b" is new")?;
+    let new = admitted(alloc, tables.new, Some(place))?;
+    put_admission(alloc, text, name.as_slice(), &[], new.as_slice())
 }
 
 /// What changes of the stations of the old configuration.
@@ -312,10 +201,12 @@ fn put_refusal(text: &mut Vec<u8>, is_same: bool) -> Result<(), AllocError>
     put_reason(text, Reason::Different)
 }
 
-/// What changes, and for whom, if a server that runs one configuration is given another. First come the stations of the
-/// old one, in order, and then those that are new. A station is known by its network and code, and nobody may use one
-/// that is not there. A line each:
+/// What changes, and for whom, if a server that runs one configuration is given another. First come the groups that
+/// both have, then the stations of the old one, in order, and then those that are new. A station is known by its network
+/// and code, and nobody may use one that is not there. Where the same text holds for a station in both, what changes is
+/// told of the groups that it names. A line each:
 ///
+/// - `@GROUP gains NETWORK` and so on, as below of stations, and then `@GROUP is in the list of N stations`;
 /// - `NET_STA is gone`, `NET_STA is new`;
 /// - `NET_STA opens to everybody`, `NET_STA closes to everybody`, or `NET_STA closes to everybody but NETWORK NETWORK`;
 /// - otherwise `NET_STA gains NETWORK` and `NET_STA loses NETWORK`, for the addresses that could not use it and can, and
@@ -333,8 +224,9 @@ pub fn changes_of(alloc: Global, old: &ConfigText, new: &ConfigText) -> Result<V
         old: old.table(),
         new: new.table(),
     };
-    let (old, new) = (old.config(), new.config());
     let mut lines = Vec::new(alloc);
+    put_group_changes(alloc, &mut lines, Groups::of(tables.old).table(), new)?;
+    let (old, new) = (old.config(), new.config());
     put_olds(alloc, &mut lines, &tables, old.stations(), new)?;
     put_news(alloc, &mut lines, &tables, new.stations(), old)?;
     put_refusal(&mut lines, old.is_same_but_for_access(new))?;

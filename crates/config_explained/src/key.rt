@@ -138,6 +138,12 @@ impl Key {
                 "a whole number from 1 to 10000",
                 "100",
             ),
+            Key::Groups => optional(
+                "groups",
+                ValueKind::Table,
+                "a table of texts, each an access list with a name",
+                "an access list names no group",
+            ),
             Key::Station => required("station", ValueKind::Tables, "1 to 1024 tables"),
             Key::Network => required("network", ValueKind::Text, "1 to 2 of A to Z and 0 to 9"),
             Key::Code => required("code", ValueKind::Text, "1 to 5 of A to Z and 0 to 9"),
@@ -159,12 +165,6 @@ impl Key {
                 ValueKind::Text,
                 LIST_LIMITS,
                 "the list of the whole server holds",
-            ),
-            Key::Groups => optional(
-                "groups",
-                ValueKind::Table,
-                "a table of texts, each an access list with a name",
-                "an access list names no group",
             ),
             Key::Silent => optional(
                 "silent",

@@ -3,9 +3,12 @@ ghost use Rattle.std.specs.Prelude.{◌≡◌, ◌++◌, IfOk, OnOk, Some, flat_
 ghost use Rattle.toml.specs.View.{table_view};
 ghost use Rattle.protocol.specs.Pieces.{split};
 ghost use Rattle.access_list.specs.Tokens.{is_separator};
-ghost use Rattle.config_explained.specs.Lists.{entry_of_group, entry_shown, list_at, list_shown, meant_at, shown_at};
+ghost use Rattle.config_explained.specs.Lists.{entry_of_group, entry_shown, list_at, list_owner, list_shown, meant_at};
+ghost use Rattle.config_explained.specs.Lists.{owner_at, shown_at};
+ghost use Rattle.config_explained.specs.ConfigTexts.{keys_of};
 ghost use Rattle.catalog.specs.Groups.{named_in};
 
+use crate::config_text::ConfigText;
 use crate::finding::text_at;
 use crate::lines::put;
 use access_list::list::is_separator;
@@ -21,6 +24,41 @@ pub(crate) fn list_at<'a>(table: &'a Table, place: usize) -> Option<&'a [u8]>
     match text_at(table, Step::Station(place, StationStep::Access)) {
         Some(own) => Some(own),
         None => text_at(table, Step::Access),
+    }
+}
+
+/// Whose the list is that holds for a station.
+#[derive(Clone, Copy, Drop)]
+pub enum ListOwner {
+    /// The station has it.
+    TheStation,
+    /// The station has none of its own, and the server has it.
+    TheServer,
+    /// No list holds: everybody may use the station.
+    Nobody,
+}
+
+/// Whose the list is that holds for the station at a place.
+fn owner_at(table: &Table, place: usize) -> ListOwner
+    ensures { result ≡ owner_at (table_view table.now) place }
+{
+    match (
+        text_at(table, Step::Station(place, StationStep::Access)),
+        text_at(table, Step::Access),
+    ) {
+        (Some(_), _) => ListOwner::TheStation,
+        (None, Some(_)) => ListOwner::TheServer,
+        (None, None) => ListOwner::Nobody,
+    }
+}
+
+/// Whose the list is that holds for the first station of a configuration with these codes, if there is one.
+pub fn list_owner(read: &ConfigText, network: &[u8], code: &[u8]) -> Option<ListOwner>
+    ensures { result ≡ list_owner (keys_of read.now.text) read.now.config network.now code.now }
+{
+    match read.config().place_of(network, code) {
+        Some(place) => Some(owner_at(read.table(), place)),
+        None => None,
     }
 }
 

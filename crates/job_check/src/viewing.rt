@@ -17,13 +17,16 @@ use crate::comparing::write_changes;
 use access_list::address;
 use catalog::Config;
 use command_line::ViewOptions;
-use config_explained::{ConfigText, Network, holder_of, holders_of, parts_of, remarks, seen_by};
+use config_explained::{
+    ConfigText, ListOwner, Network, holder_of, holders_of, list_owner, parts_of, remarks, seen_by,
+    unused_groups,
+};
 use incidents::{Failure, Incident};
 use job_base::{config_at, tell_unknown_keys};
 use protocol::reason::Reason;
 use shown_lines::ShownText;
 use sl_io::{Outer, Sink, StreamFault, write_all};
-use std::alloc::Global;
+use std::alloc::{AllocError, Global};
 use std::io;
 use std::net::Ipv4Addr;
 
@@ -148,10 +151,9 @@ fn asked_in<'a>(options: &ViewOptions<'a>) -> ViewAsked<'a> {
     }
 }
 
-/// Names the entries of a configuration's lists that admit something else than their text looks like, a line each on
-/// the standard error.
-fn tell_remarks(rt: &HostRuntime, read: &ConfigText) -> Result<(), StreamFault> {
-    match remarks(rt.alloc(), read) {
+/// Writes lines to the standard error, if there was memory for them.
+fn tell(rt: &HostRuntime, lines: Result<Vec<u8>, AllocError>) -> Result<(), StreamFault> {
+    match lines {
         Ok(lines) => {
             if let Ok(lines) = str::from_utf8(lines.as_slice()) {
                 let _ = eprint!(rt; "{}", ShownText(lines));
@@ -160,6 +162,13 @@ fn tell_remarks(rt: &HostRuntime, read: &ConfigText) -> Result<(), StreamFault> 
         }
         Err(_) => Err(StreamFault::OutOfMemory),
     }
+}
+
+/// Names the entries of a configuration's lists that admit something else than their text looks like, and the groups
+/// that are in the list of no station, a line each on the standard error.
+fn tell_remarks(rt: &HostRuntime, read: &ConfigText) -> Result<(), StreamFault> {
+    tell(rt, remarks(rt.alloc(), read))?;
+    tell(rt, unused_groups(rt.alloc(), read))
 }
 
 /// Writes all stations with whom they are open to, and then names what the lists don't look like.
@@ -181,19 +190,28 @@ fn write_parts(rt: &HostRuntime, read: &ConfigText, network: Network) -> Result<
     list_parts(rt.alloc(), read, network, &mut out)
 }
 
-/// Writes who may use the station that a word names, `NET_STA`. Whether there is one.
+/// What is said of the list that holds for a station.
+fn words_of(owner: ListOwner) -> &'static str {
+    match owner {
+        ListOwner::TheStation => "its own list",
+        ListOwner::TheServer => "the server's list: the station has none of its own",
+        ListOwner::Nobody => "no list: neither the station nor the server has one",
+    }
+}
+
+/// Writes who may use the station that a word names, `NET_STA`, and on the standard error whose list says so. Whether
+/// there is such a station.
 fn write_station(rt: &HostRuntime, read: &ConfigText, word: &str) -> Result<bool, StreamFault> {
     let Some((network, code)) = word.split_once('_') else {
         return Ok(false);
     };
+    let (network, code) = (network.as_bytes(), code.as_bytes());
     let mut out = Outer::new(io::writer(rt));
-    list_station(
-        rt.alloc(),
-        read,
-        network.as_bytes(),
-        code.as_bytes(),
-        &mut out,
-    )
+    let is_there = list_station(rt.alloc(), read, network, code, &mut out)?;
+    if let Some(owner) = list_owner(read, network, code) {
+        let _ = eprint!(rt; "seedlinkd: {}\n", words_of(owner));
+    }
+    Ok(is_there)
 }
 
 /// What is said of a word that names no station of the configuration.
@@ -239,8 +257,8 @@ fn write_view<'a>(
 
 /// Writes what an address sees of the configuration in a file, or how much of a network sees each station, or who may
 /// use a station of it, or what another configuration changes, or all stations with whom they are open to. In the last
-/// case entries of lists that admit something else than they look like are named on the standard error. So are keys
-/// that are not known, and if the options are strict the configuration is refused for them. If it is compared with
+/// case entries of lists that admit something else than they look like, and groups that no list names, are named on the
+/// standard error. So are keys that are not known, and if the options are strict the configuration is refused for them. If it is compared with
 /// another one, the keys of that are named instead.
 pub fn view_file<'a>(rt: &HostRuntime, options: ViewOptions<'a>) -> Result<(), Incident<'a>> {
     let read = config_at(rt, options.config)?;

@@ -1,7 +1,7 @@
 use Rattle.std.proofs.Common.{◌≡◌, ◌++◌, drop, map}
 use Rattle.config_explained.specs.Holders.{words_of}
 use Rattle.config_explained.specs.NetworkTexts.{network_text}
-use Rattle.config_explained.proofs.changes.put_networks.Given as goal
+use Rattle.config_explained.proofs.admission.put_networks.Given as goal
 
 abbrev pub invariant-loop-network : goal.invariant-loop-network
 invariant-loop-network l =

@@ -1,8 +1,0 @@
-use Rattle.std.proofs.Common.{◌≡◌, ◌++◌, drop, flat_map}
-use Rattle.config_explained.specs.Changes.{network_line}
-use Rattle.config_explained.proofs.changes.put_network_lines.Given as goal
-
-abbrev pub invariant-loop-network : goal.invariant-loop-network
-invariant-loop-network l =
-    l.fn.text.items ++ flat_map (network_line l.station.station l.verb) l.networks
-    ≡ l.text.items ++ flat_map (network_line l.station.station l.verb) (drop l.network-index l.networks)
