@@ -10,7 +10,7 @@ pub mod fault;
 pub mod groups;
 mod index;
 pub mod keys;
-mod listing;
+pub mod listing;
 pub mod numbers;
 pub mod settings;
 pub mod station;

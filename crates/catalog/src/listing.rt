@@ -50,9 +50,9 @@ pub(crate) fn stations_of(alloc: Global, table: &Table) -> Result<IndexedStation
     }
 }
 
-/// The values that describe the stations.
+/// The values that describe the stations: those of `station`, which is an array of 1 to 1,024 tables.
 #[tactic(auto, using(crate::proofs::ElementLemmas::values_lemmas), unfolding(crate::specs::Reading::station_values))]
-fn station_values(table: &Table) -> Result<&[Value], ConfigFault>
+pub fn station_values(table: &Table) -> Result<&[Value], ConfigFault>
     ensures ok { IfOk result (λ values. station_values (table_view table.now) ≡ Ok (map view values.now)) }
     ensures few { IfOk result (λ values. length values.now ≤ 1024) }
     ensures fault { IfErr result (λ e. station_values (table_view table.now) ≡ Err e) }

@@ -6,6 +6,7 @@ mod SeenLemmas
 mod HolderLemmas
 mod EntryLemmas
 mod PieceLemmas
+mod FaultLemmas
 mod NamingLemmas
 mod SilenceLemmas
 mod OpenedLemmas

@@ -22,5 +22,6 @@ pub mod Coverage
 pub mod Parts
 pub mod Gains
 pub mod NetworkTexts
+pub mod AllFaults
 pub mod Changes
 pub mod Users

@@ -103,7 +103,7 @@ fn toml_finding(alloc: Global, text: &str) -> Result<ConfigFinding, AllocError>
 }
 
 /// The table of a text, if it is one.
-fn table_if_any(alloc: Global, text: &[u8]) -> Result<Option<Table>, AllocError>
+pub(crate) fn table_if_any(alloc: Global, text: &[u8]) -> Result<Option<Table>, AllocError>
     ensures { IfOk result (λ table. IsUtf8 text.now → parse_document text.now ≡ option_map table_view table) }
 {
     match table_of(alloc, text) {

@@ -7,6 +7,7 @@
 // what is read
 mod config_text;
 // findings
+mod all_faults;
 mod difference;
 mod finding;
 mod kind;
@@ -44,6 +45,7 @@ mod seen;
 mod silence;
 mod users;
 
+pub use all_faults::faults_of;
 pub use changes::changes_of;
 pub use config_text::{ConfigText, RefusedText};
 pub use difference::{Difference, first_difference};
@@ -57,7 +59,7 @@ pub use network::Network;
 pub use opened::open_to_everybody;
 pub use parts::parts_of;
 pub use place::{TextPlace, line_from, place_of};
-pub use refusal::{RefusedConfig, RefusedEntry, cause_of};
+pub use refusal::{FaultLine, RefusedConfig, RefusedEntry, cause_of};
 pub use remark::{Remark, remarks};
 pub use seen::seen_by;
 pub use setting::Setting;

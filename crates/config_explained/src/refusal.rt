@@ -1,7 +1,7 @@
 //! The lines that explain why a configuration is refused, and where it differs from another one.
 use crate::difference::Difference;
 use crate::finding::ConfigFinding;
-use crate::setting_texts::key_of;
+use crate::setting_texts::{key_of, limit_of};
 use access_list::AccessFault;
 use catalog::{ConfigError, ConfigFault, Step};
 use shown_lines::put_line;
@@ -41,6 +41,52 @@ impl Display for RefusedConfig<'_> {
         let error = self.error;
         put_key(f, error.step, &error.network, &error.code)?;
         write!(f, "{}", self.finding)
+    }
+}
+
+/// One of several faults of a configuration: what is found at its step.
+#[derive(Clone, Copy)]
+pub struct FaultLine<'e> {
+    pub error: &'e ConfigError,
+    pub finding: &'e ConfigFinding,
+}
+
+impl Display for FaultLine<'_> {
+    /// The line that names it, with its station, its key, what stands there and what is allowed.
+    fn fmt<W: Write>(&self, f: &mut Formatter<W>) -> fmt::Result {
+        let error = self.error;
+        let reason = error.fault.reason();
+        write!(f, "seedlinkd: {} {}", reason.number(), reason.name())?;
+        put_station_words(f, error)?;
+        if let Some(key) = key_of(error.step) {
+            write!(f, ", {key}")?;
+        }
+        put_finding_words(f, self.finding)?;
+        writeln!(f, "; allowed: {}", limit_of(error.step))
+    }
+}
+
+/// The words that name the station of an error, if it is at one.
+fn put_station_words<W: Write>(f: &mut Formatter<W>, error: &ConfigError) -> fmt::Result {
+    match error.step {
+        Step::Station(place, _) => {
+            write!(f, ", station {}", place as u128 + 1)?;
+            put_code(f, &error.network)?;
+            put_code(f, &error.code)
+        }
+        _ => Ok(()),
+    }
+}
+
+/// The words that say what stands there.
+fn put_finding_words<W: Write>(f: &mut Formatter<W>, finding: &ConfigFinding) -> fmt::Result {
+    match finding {
+        ConfigFinding::OtherKind { found, .. } => write!(f, ", found {found}"),
+        ConfigFinding::Entry { text } => match str::from_utf8(text.as_slice()) {
+            Ok(text) => write!(f, ", entry {text}"),
+            Err(_) => Ok(()),
+        },
+        _ => Ok(()),
     }
 }
 

@@ -3,6 +3,7 @@ ghost use Rattle.std.specs.Prelude.{◌≡◌, IfOk, Ok};
 ghost use Rattle.toml.specs.Parse.{parse_document};
 ghost use Rattle.catalog.specs.Reading.{config_read};
 
+use crate::faults::tell_faults;
 use catalog::{ConfigError, ConfigFault};
 use config_explained::{
     ConfigFinding, ConfigText, RefusedConfig, RefusedText, cause_of, finding_of, limit_of,
@@ -47,6 +48,30 @@ pub fn config_in<'a>(
         Ok(read) => Ok(read),
         Err(refused) => Err(explained(alloc, path, refused)),
     }
+}
+
+/// The configuration that the text of a file spells. If it has several faults, each is named on the standard error.
+pub fn judged_config_in<'a>(
+    rt: &HostRuntime,
+    path: &'a str,
+    text: Vec<u8>,
+) -> Result<ConfigText, Incident<'a>>
+    ensures config { IfOk result (λ read. config_read (parse_document text.items) ≡ Ok read.config) }
+    ensures text { IfOk result (λ read. read.text ≡ text.items) }
+{
+    match ConfigText::read(rt.alloc(), text) {
+        Ok(read) => Ok(read),
+        Err(refused) => {
+            tell_faults(rt, refused.text.as_slice());
+            Err(explained(rt.alloc(), path, refused))
+        }
+    }
+}
+
+/// The configuration in a file. If it has several faults, each is named on the standard error.
+pub fn judged_config_at<'a>(rt: &HostRuntime, path: &'a str) -> Result<ConfigText, Incident<'a>> {
+    let text = text_at(rt, path)?;
+    judged_config_in(rt, path, text)
 }
 
 /// A configuration that is refused, and what is found where it is. Without memory that is nothing.

@@ -6,6 +6,7 @@ mod begun;
 mod configured;
 mod descriptors;
 mod endpoint;
+mod faults;
 mod found;
 mod inputs;
 mod lists;
@@ -23,7 +24,10 @@ pub use configured::ConfiguredStations;
 pub use descriptors::descriptor_limit;
 pub use endpoint::Endpoint;
 pub use found::refused_records;
-pub use inputs::{config_at, config_in, lines_of, open, text_at, text_in, unopened};
+pub use inputs::{
+    config_at, config_in, judged_config_at, judged_config_in, lines_of, open, text_at, text_in,
+    unopened,
+};
 pub use lists::refused_list;
 pub use misspelled::{checked_config_at, refuse_unknown, tell_unknown_keys, unknown_lines};
 pub use plain_files::{plain_at, plain_text_at};

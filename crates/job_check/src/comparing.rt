@@ -8,7 +8,7 @@ ghost use Rattle.protocol.specs.declared.reason.Reason.TheVariants.{File};
 use crate::viewing::write_text;
 use config_explained::{ConfigText, Difference, changes_of, first_difference};
 use incidents::{Failure, Incident, Place, Site};
-use job_base::{config_in, lines_of, open, tell_unknown_keys, text_in};
+use job_base::{judged_config_in, lines_of, open, tell_unknown_keys, text_in};
 use protocol::reason::Reason;
 use sl_io::{Outer, Sink, StreamFault};
 use std::alloc::Global;
@@ -73,7 +73,7 @@ fn compare<'a>(
     new_text: Vec<u8>,
     is_strict: bool,
 ) -> Result<(), Incident<'a>> {
-    let new = config_in(rt.alloc(), path, new_text)?;
+    let new = judged_config_in(rt, path, new_text)?;
     tell_unknown_keys(rt, path, &new, is_strict)?;
     match write_all(rt, old, path, &new) {
         Ok(()) => Ok(()),

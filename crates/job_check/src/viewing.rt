@@ -22,7 +22,7 @@ use config_explained::{
     unused_groups,
 };
 use incidents::{Failure, Incident};
-use job_base::{config_at, tell_unknown_keys};
+use job_base::{judged_config_at, tell_unknown_keys};
 use protocol::reason::Reason;
 use shown_lines::ShownText;
 use sl_io::{Outer, Sink, StreamFault, write_all};
@@ -259,9 +259,10 @@ fn write_view<'a>(
 /// use a station of it, or what another configuration changes, or all stations with whom they are open to. In the last
 /// case entries of lists that admit something else than they look like, and groups that no list names, are named on the
 /// standard error. So are keys that are not known, and if the options are strict the configuration is refused for them. If it is compared with
-/// another one, the keys of that are named instead.
+/// another one, the keys of that are named instead. A configuration that is refused has each of its faults named there, if
+/// it has several.
 pub fn view_file<'a>(rt: &HostRuntime, options: ViewOptions<'a>) -> Result<(), Incident<'a>> {
-    let read = config_at(rt, options.config)?;
+    let read = judged_config_at(rt, options.config)?;
     if !matches!(asked_in(&options), ViewAsked::Other(_)) {
         tell_unknown_keys(rt, options.config, &read, options.is_strict)?;
     }

@@ -9,7 +9,7 @@ returns-in-Some c =
     let keys = keys_of c.args.read.now.text in
     let place = c.in-Some.place in
     let found : Some place ≡ position (λ e. has_codes c.args.network.now c.args.code.now e.station)
-        c.args.read.now.config.entries =
+    c.args.read.now.config.entries =
     sym c.in-Some.is ∙ c.place_of.ensures.value
     ∙ ap (λ (config : Config). position (λ e. has_codes c.args.network.now c.args.code.now e.station) config.entries)
     c.config.ensures in
