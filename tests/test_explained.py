@@ -69,10 +69,6 @@ CONFIGURATIONS = [
      "  station: 1 GE APE\n  key: first\n  allowed: 1 to 6 hexadecimal digits\n"),
     ("the first entry of a list", ISLAND + 'access = "10.0.0.7,, 10.0.0/8 10.0.0"\n',
      "  station: 1 GE APE\n  key: access\n  entry: 10.0.0/8\n" + LISTS),
-    ("no such group", ISLAND + 'access = "@staff"\n',
-     "  station: 1 GE APE\n  key: access\n  entry: @staff\n  reason: no text of the table groups has this name\n" + LISTS),
-    ("an entry of a group", '[groups]\nstaff = "10.0.0.7 10.0.0.0/40"\n[[station]]'.join((ISLAND + 'access = "@staff"\n').split("[[station]]")),
-     "  station: 1 GE APE\n  key: access\n  entry: 10.0.0.0/40\n" + LISTS),
     ("a list as an array", ISLAND + 'access = ["10.0.0.7"]\n',
      "  station: 1 GE APE\n  key: access\n  found: an array\n  wanted: a text\n" + LISTS),
     ("two stations alike", ISLAND + APE, "  station: 2 GE APE\n  key: network and code\n  allowed: not those of an earlier station\n"),
@@ -90,6 +86,13 @@ CONFIGURATIONS = [
     ("no TOML", ISLAND + "title = \ncode = 3\n", "  line: 7\n  column: 9\n  reason: ", "\n  text: title = \n  allowed: TOML in UTF-8\n"),
     ("no UTF-8", b'title = "\xc3\xa9\xff"\n',
      "  line: 1\n  column: 11\n  offset: 11\n  found: bytes that are not UTF-8\n  allowed: TOML in UTF-8\n"),
+]
+# The same of groups.
+GROUPS = [
+    ("no such group", ISLAND + 'access = "@staff"\n',
+     "  station: 1 GE APE\n  key: access\n  entry: @staff\n  reason: no text of the table groups has this name\n" + LISTS),
+    ("an entry of a group", '[groups]\nstaff = "10.0.0.7 10.0.0.0/40"\n[[station]]'.join((ISLAND + 'access = "@staff"\n').split("[[station]]")),
+     "  station: 1 GE APE\n  key: access\n  entry: 10.0.0.0/40\n" + LISTS),
 ]
 # A configuration that is to replace the island's, and what is said of it; nothing if nothing changes but the stations that are there.
 DIFFERENCES = [
@@ -125,8 +128,8 @@ class Explained(kit.Test):
         self.assertEqual(ended.status, 1)
         self.assertTrue(ended.said.endswith("seedlinkd: " + lines), ended.said)
 
-    @kit.rows(CONFIGURATIONS)
-    def test_a_configuration(self, text, begins, ends=""):
+    def explains(self, text, begins, ends=""):
+        """What `view` says of a configuration behind the name of its file is this, or begins and ends so."""
         ended = self.run_program("-v", "view", kit.write("island.toml", text))
         self.assertEqual((ended.status, ended.printed), (1, ""))
         said = ended.said.partition("\n  file: island.toml\n")[2]
@@ -134,6 +137,15 @@ class Explained(kit.Test):
             self.assertTrue(said.startswith(begins) and said.endswith(ends), ended.said)
         else:
             self.assertEqual(said, begins)
+
+    @kit.rows(CONFIGURATIONS)
+    def test_a_configuration(self, text, begins, ends=""):
+        self.explains(text, begins, ends)
+
+    @kit.unreleased
+    @kit.rows(GROUPS)
+    def test_a_configuration_with_groups(self, text, begins, ends=""):
+        self.explains(text, begins, ends)
 
     @kit.rows(DIFFERENCES)
     def test_a_difference(self, text, lines):

@@ -15,12 +15,13 @@ use Rattle.config_explained.specs.declared.key.Key.{Key}
 use Rattle.config_explained.specs.declared.owner.Owner.{Owner}
 use Rattle.config_explained.specs.declared.owner.Owner.TheVariants as owner
 
--- whose keys a table has, or whose entries a list: those of the whole server, of its groups or of one of them, or of a
--- station, which is the so manieth from 1 on
+-- whose keys a table has, or whose entries a list: those of the whole server, of its groups or of one of them, of an
+-- option of the command line, or of a station, which is the so manieth from 1 on
 pub data Whose : Type 0 where
   TheServer : Whose
   TheGroups : Whose
   TheGroup : (name : List ℕ) → Whose
+  TheOption : (name : List ℕ) → Whose
   TheStation : (number : ℕ) → Station → Whose
 
 -- the same as the code has it
@@ -28,6 +29,7 @@ abbrev pub whose : Owner → Whose
 whose owner.Server = TheServer
 whose owner.Groups = TheGroups
 whose (owner.Group name) = TheGroup name.now
+whose (owner.Option name) = TheOption name.now
 whose (owner.Station number station) = TheStation number station.now.station
 
 -- ---- which keys are known
@@ -37,6 +39,7 @@ abbrev pub keys_of : Whose → List Key
 keys_of TheServer = server_keys
 keys_of TheGroups = []
 keys_of (TheGroup name) = []
+keys_of (TheOption name) = []
 keys_of (TheStation number station) = station_keys
 
 -- a key is one of them and may have that value; a group is a text
@@ -56,6 +59,7 @@ abbrev pub owner_words : Whose → List ℕ
 owner_words TheServer = []
 owner_words TheGroups = codes ", groups"
 owner_words (TheGroup name) = codes ", group " ++ map shown name
+owner_words (TheOption name) = codes ", " ++ name
 owner_words (TheStation number s) = codes ", station " ++ decimal number ++ 32 ∷ s.network ++ 32 ∷ s.code
 
 -- the question whether another key was meant

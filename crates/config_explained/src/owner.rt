@@ -5,7 +5,7 @@ ghost use Rattle.toml.specs.View.{view};
 ghost use Rattle.config_explained.specs.KeyTable.{is_key_of, name_of, row_of};
 ghost use Rattle.config_explained.specs.Nearest.{nearest};
 ghost use Rattle.config_explained.specs.Unknown.{hint, hint_by, is_known, keys_of, owner_words, question, whose};
-ghost use Rattle.config_explained.specs.Unknown.Whose.{TheGroup, TheStation};
+ghost use Rattle.config_explained.specs.Unknown.Whose.{TheGroup, TheOption, TheStation};
 
 use crate::key::{Key, SERVER_KEYS, STATION_KEYS};
 use crate::lines::put;
@@ -25,6 +25,8 @@ pub enum Owner<'a> {
     Groups,
     /// Of one group, by its name.
     Group(&'a str),
+    /// Of an option of the command line.
+    Option(&'a str),
     /// Those of a station, which is the so manieth, from 1 on.
     Station(usize, &'a Station),
 }
@@ -36,7 +38,7 @@ impl Owner<'_> {
     {
         match self {
             Owner::Server => &SERVER_KEYS,
-            Owner::Groups | Owner::Group(_) => &[],
+            Owner::Groups | Owner::Group(_) | Owner::Option(_) => &[],
             Owner::Station(_, _) => &STATION_KEYS,
         }
     }
@@ -70,6 +72,7 @@ impl Owner<'_> {
             Owner::Server => Ok(()),
             Owner::Groups => put(text, b", groups"),
             Owner::Group(name) => put_group(text, name),
+            Owner::Option(name) => put_option(text, name),
             Owner::Station(number, station) => put_station(text, number, station),
         }
     }
@@ -144,6 +147,14 @@ fn put_group(text: &mut Vec<u8>, name: &str) -> Result<(), AllocError>
 {
     put(text, b", group ")?;
     put_key(text, name.as_bytes())
+}
+
+/// The words that name an option.
+fn put_option(text: &mut Vec<u8>, name: &str) -> Result<(), AllocError>
+    ensures { OnOk result (text.new.items ≡ text.old.items ++ owner_words (TheOption name.now)) }
+{
+    put(text, b", ")?;
+    put(text, name.as_bytes())
 }
 
 /// The words that name a station.

@@ -4,7 +4,7 @@ ghost use Rattle.config_explained.specs.ConfigTexts.{keys_of};
 ghost use Rattle.toml.specs.Data.{as_str};
 ghost use Rattle.toml.specs.View.{table_view, view};
 ghost use Rattle.config_explained.specs.Remarks.{groups_remarks, groups_remarks_if};
-ghost use Rattle.config_explained.specs.Unknown.Whose.{TheGroup};
+ghost use Rattle.config_explained.specs.Unknown.Whose.{TheGroup, TheOption};
 ghost use Rattle.protocol.specs.Catalog.{stations_of};
 ghost use Rattle.access_list.specs.Tokens.{is_separator};
 ghost use Rattle.config_explained.specs.Remarks.{entry_remark, has_leading_ones, list_remarks, remark_line, remark_of};
@@ -207,5 +207,15 @@ pub fn remarks(alloc: Global, read: &ConfigText) -> Result<Vec<u8>, AllocError>
     put_if(&mut lines, text_at(table, Step::Access), Owner::Server)?;
     put_groups_if(&mut lines, Groups::of(table).table())?;
     put_stations(&mut lines, read.config().stations(), table)?;
+    Ok(lines)
+}
+
+/// The entries of a list that an option of the command line has, as `--feed-from`, and that admit something else than
+/// their text looks like, a line each as `remarks` has them. Only memory can lack.
+pub fn list_remarks(alloc: Global, option: &str, list: &[u8]) -> Result<Vec<u8>, AllocError>
+    ensures { IfOk result (λ lines. lines.items ≡ list_remarks (TheOption option.now) list.now) }
+{
+    let mut lines = Vec::new(alloc);
+    put_list_remarks(&mut lines, list, Owner::Option(option))?;
     Ok(lines)
 }

@@ -14,6 +14,7 @@ mod misspelled;
 mod plain_files;
 mod progress;
 mod reasons;
+mod remarked;
 mod servers;
 mod standard_error;
 mod telling;
@@ -33,6 +34,7 @@ pub use misspelled::{checked_config_at, refuse_unknown, tell_unknown_keys, unkno
 pub use plain_files::{plain_at, plain_text_at};
 pub use progress::{Watched, is_output_terminal, is_terminal, size_of};
 pub use reasons::ReasonKeeper;
+pub use remarked::{tell_list_remarks, tell_remarks};
 pub use servers::{ServerAddress, connect, connection, server_of, unconnected};
 pub use standard_error::ErrorOutput;
 pub use telling::tell_incident;

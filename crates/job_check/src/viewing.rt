@@ -18,15 +18,15 @@ use access_list::address;
 use catalog::Config;
 use command_line::ViewOptions;
 use config_explained::{
-    ConfigText, ListOwner, Network, holder_of, holders_of, list_owner, parts_of, remarks, seen_by,
+    ConfigText, ListOwner, Network, holder_of, holders_of, list_owner, parts_of, seen_by,
     unused_groups,
 };
 use incidents::{Failure, Incident};
-use job_base::{judged_config_at, tell_unknown_keys};
+use job_base::{judged_config_at, tell_remarks, tell_unknown_keys};
 use protocol::reason::Reason;
 use shown_lines::ShownText;
 use sl_io::{Outer, Sink, StreamFault, write_all};
-use std::alloc::{AllocError, Global};
+use std::alloc::Global;
 use std::io;
 use std::net::Ipv4Addr;
 
@@ -151,31 +151,22 @@ fn asked_in<'a>(options: &ViewOptions<'a>) -> ViewAsked<'a> {
     }
 }
 
-/// Writes lines to the standard error, if there was memory for them.
-fn tell(rt: &HostRuntime, lines: Result<Vec<u8>, AllocError>) -> Result<(), StreamFault> {
-    match lines {
-        Ok(lines) => {
-            if let Ok(lines) = str::from_utf8(lines.as_slice()) {
-                let _ = eprint!(rt; "{}", ShownText(lines));
-            }
-            Ok(())
+/// Names the groups of a configuration that are in the list of no station, a line each on the standard error.
+fn tell_unused(rt: &HostRuntime, read: &ConfigText) {
+    if let Ok(lines) = unused_groups(rt.alloc(), read) {
+        if let Ok(lines) = str::from_utf8(lines.as_slice()) {
+            let _ = eprint!(rt; "{}", ShownText(lines));
         }
-        Err(_) => Err(StreamFault::OutOfMemory),
     }
-}
-
-/// Names the entries of a configuration's lists that admit something else than their text looks like, and the groups
-/// that are in the list of no station, a line each on the standard error.
-fn tell_remarks(rt: &HostRuntime, read: &ConfigText) -> Result<(), StreamFault> {
-    tell(rt, remarks(rt.alloc(), read))?;
-    tell(rt, unused_groups(rt.alloc(), read))
 }
 
 /// Writes all stations with whom they are open to, and then names what the lists don't look like.
 fn write_all_stations(rt: &HostRuntime, read: &ConfigText) -> Result<(), StreamFault> {
     let mut out = Outer::new(io::writer(rt));
     list_holders(rt.alloc(), read, &mut out)?;
-    tell_remarks(rt, read)
+    tell_remarks(rt, read);
+    tell_unused(rt, read);
+    Ok(())
 }
 
 /// Writes what an address sees.

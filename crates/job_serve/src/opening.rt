@@ -11,7 +11,9 @@ use catalog::Config;
 use command_line::ServeOptions;
 use config_explained::{ConfigText, open_to_everybody};
 use incidents::Incident;
-use job_base::{ServerAddress, checked_config_at, plain_at, server_of};
+use job_base::{
+    ServerAddress, checked_config_at, plain_at, server_of, tell_list_remarks, tell_remarks,
+};
 use ports_socket::Admission;
 use std::alloc::Global;
 
@@ -72,7 +74,8 @@ pub struct ServedFiles<'a> {
     pub numbers: Option<Box<NumberFile<'a>>>,
 }
 
-/// Reads the files that the words name. The keys of the configuration that are not known are named. A configuration
+/// Reads the files that the words name. The keys of the configuration that are not known are named, and so are entries of
+/// lists that admit something else than they look like. A configuration
 /// that is to be read again has to be a plain file. Where the words name a file of numbers, they are kept there.
 pub fn served_by<'a>(
     rt: &HostRuntime,
@@ -85,6 +88,7 @@ pub fn served_by<'a>(
         plain_at(rt, options.config)?;
     }
     let read = checked_config_at(rt, options.config, options.is_strict)?;
+    tell_lists(rt, options, &read);
     let open = open_for(rt.alloc(), options, &read)?;
     tell_missing(rt, read.config().max_connections());
     let mut config = copy_of(rt.alloc(), read.config())?;
@@ -102,6 +106,13 @@ pub fn served_by<'a>(
             numbers,
         },
     })
+}
+
+/// Names what lists admit that they don't look like: those of the configuration, and those of the words.
+fn tell_lists(rt: &HostRuntime, options: &ServeOptions<'_>, read: &ConfigText) {
+    tell_remarks(rt, read);
+    tell_list_remarks(rt, "--feed-from", options.feed_from);
+    tell_list_remarks(rt, "--status-from", options.status_from);
 }
 
 /// A configuration once more.
