@@ -3,3 +3,4 @@ pub mod Faults
 pub mod Handing
 pub mod Judging
 pub mod Skipping
+pub mod Waiting

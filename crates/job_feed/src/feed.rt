@@ -12,6 +12,7 @@ ghost use Rattle.job_feed.specs.Handing.{CountsBeginning, counted_part};
 
 use crate::fault::FeedFault;
 use crate::feeding::await_end;
+use crate::waiting::WaitingStream;
 use feeder::{SendFault, send};
 use sl_io::{DeviceFault, Outer, Sink, Source};
 use std::io::{ErrorKind, Write};
@@ -42,13 +43,13 @@ fn is_closed(stream: &TcpStream) -> bool {
 
 /// A feed of which all records were sent, and whose sending half is shut.
 #[derive(Drop)]
-pub struct SentFeed {
-    stream: TcpStream,
+pub struct SentFeed<'r> {
+    stream: WaitingStream<'r>,
     /// How many records were sent.
     pub count: u64,
 }
 
-impl SentFeed {
+impl SentFeed<'_> {
     /// Waits for the server's end. If it comes in order, the server has read everything: then the answer is how many
     /// records were sent. It fails with 43 if the connection was reset, if the server ended it before it had read to
     /// the end, or if the end does not come in time, and with 52 if the server answered something.
@@ -58,9 +59,9 @@ impl SentFeed {
         let awaited = await_end(&mut server);
         let stream = server.into_inner();
         match awaited {
-            Ok(()) if is_closed(&stream) => Ok(count),
+            Ok(()) if is_closed(stream.stream()) => Ok(count),
             Ok(()) => Err(FeedFault::Untaken),
-            Err(FeedFault::Untaken) if !is_over(&stream) => Err(FeedFault::Silent),
+            Err(FeedFault::Untaken) if !is_over(stream.stream()) => Err(FeedFault::Silent),
             Err(fault) => Err(fault),
         }
     }
@@ -149,19 +150,20 @@ impl<T: Write + Drop> Feed<T> {
     }
 }
 
-impl Feed<TcpStream> {
+impl<'r> Feed<WaitingStream<'r>> {
     /// Whether the connection is still there: a write that failed has ended by its time.
     pub fn is_open(&self) -> bool {
-        !is_over(&self.stream)
+        !is_over(self.stream.stream())
     }
 
     /// Shuts the sending half. It fails with 43 if the server ended the connection before.
-    pub fn shut(self) -> Result<SentFeed, FeedFault>
-        ensures { IfOk result (λ sent. sent.count ≡ self.taken / 512) }
+    pub fn shut(self) -> Result<SentFeed<'r>, FeedFault>
+        ensures { IfOk result (λ sent. sent.count ≡ self.entry.taken / 512) }
     {
         let count = self.records();
         let Feed { stream, .. } = self;
-        if is_over(&stream) || stream.shutdown(Shutdown::Write).is_err() {
+        let open = stream.stream();
+        if is_over(open) || open.shutdown(Shutdown::Write).is_err() {
             return Err(FeedFault::Untaken);
         }
         Ok(SentFeed { stream, count })

@@ -13,6 +13,7 @@ use crate::lines::FeedLine;
 use crate::looks::look_at_each;
 use crate::sent::{FileRecord, SentRecords};
 use crate::skipping::{bytes_before, pass_over};
+use crate::waiting::WaitingStream;
 use command_line::FeedOptions;
 use feeder::SendFault;
 use incidents::{Failure, Incident, Place};
@@ -36,8 +37,10 @@ pub struct FeedRules<'s, S> {
     pub is_strict: bool,
     /// Whether what is in no record is passed over.
     pub skips: bool,
-    /// For how long at most the server takes nothing, or does not end the connection.
-    pub limit: Option<Duration>,
+    /// For how many seconds at most the server takes nothing, or does not end the connection.
+    pub limit: Option<u64>,
+    /// Whether somebody is shown that it took nothing for a minute.
+    pub is_shown: bool,
 }
 
 /// How far a feed is: what was judged, the first file with a record that is refused, and what it is if that is known,
@@ -92,7 +95,7 @@ fn begin_at<T: Read>(records: &mut T, number: u64) -> Result<(), DeviceFault> {
 /// Sends the records of a file that is open, from one of them on, and says how many records were sent by then.
 fn send_input<'a, S: Stations>(
     rt: &HostRuntime,
-    feed: &mut Feed<TcpStream>,
+    feed: &mut Feed<WaitingStream<'_>>,
     rules: &FeedRules<'_, S>,
     progress: &mut FeedProgress<'a>,
     file: File,
@@ -154,7 +157,7 @@ fn given_up<'a>(
 /// Sends the records of files, one file after the other.
 fn send_each<'a, S: Stations>(
     rt: &HostRuntime,
-    feed: &mut Feed<TcpStream>,
+    feed: &mut Feed<WaitingStream<'_>>,
     rules: &FeedRules<'_, S>,
     progress: &mut FeedProgress<'a>,
     files: &[&'a str],
@@ -173,16 +176,16 @@ fn send_each<'a, S: Stations>(
 
 /// Sends the records of files over a connection, of which the first file is open, from one of its records on, and shuts
 /// its sending half.
-fn send_over<'a, S: Stations>(
-    rt: &HostRuntime,
-    mut feed: Feed<TcpStream>,
+fn send_over<'r, 'a, S: Stations>(
+    rt: &'r HostRuntime,
+    mut feed: Feed<WaitingStream<'r>>,
     rules: &FeedRules<'_, S>,
     progress: &mut FeedProgress<'a>,
     file: File,
     first: FileRecord<'a>,
     others: &[&'a str],
     server: &'a str,
-) -> Result<SentFeed, Incident<'a>>
+) -> Result<SentFeed<'r>, Incident<'a>>
     ensures { IfOk result (λ feed. feed.count ≡ progress.new.sent.count) }
 {
     send_input(rt, &mut feed, rules, progress, file, first, server)?;
@@ -193,28 +196,32 @@ fn send_over<'a, S: Stations>(
     }
 }
 
-/// Has the system end what waits for longer.
-fn bounded(stream: TcpStream, limit: Duration) -> io::Result<TcpStream> {
-    stream.set_write_timeout(Some(limit))?;
-    stream.set_read_timeout(Some(limit))?;
-    Ok(stream)
-}
-
-/// A connection to a server, which takes at most so long to be made, and then to take or to end something.
-fn connected<'a>(
+/// A connection to a server, which takes at most so many seconds to be made.
+fn made_within<'a>(
     rt: &HostRuntime,
     server: ServerAddress<'a>,
-    limit: Option<Duration>,
+    limit: Option<u64>,
 ) -> Result<TcpStream, Incident<'a>> {
     let Some(limit) = limit else {
         return connection(rt, server);
     };
     let address = SocketAddr::V4(server.endpoint.socket_address());
-    let made = match TcpStream::connect_timeout(rt, &address, limit) {
-        Ok(stream) => bounded(stream, limit),
-        Err(reason) => Err(reason),
-    };
-    match made {
+    match TcpStream::connect_timeout(rt, &address, Duration::from_secs(limit)) {
+        Ok(stream) => Ok(stream),
+        Err(reason) => Err(unconnected(server, reason)),
+    }
+}
+
+/// The same, whose server takes at most as long to take or to end something. That it takes nothing for a minute is
+/// shown or not.
+fn connected<'r, 'a>(
+    rt: &'r HostRuntime,
+    server: ServerAddress<'a>,
+    limit: Option<u64>,
+    is_shown: bool,
+) -> Result<WaitingStream<'r>, Incident<'a>> {
+    let stream = made_within(rt, server, limit)?;
+    match WaitingStream::new(rt, stream, limit, is_shown) {
         Ok(stream) => Ok(stream),
         Err(reason) => Err(unconnected(server, reason)),
     }
@@ -222,31 +229,31 @@ fn connected<'a>(
 
 /// Connects to a server, sends it the records of files, of which the first is open, and shuts the sending half of the
 /// connection.
-fn send_open<'a, S: Stations>(
-    rt: &HostRuntime,
+fn send_open<'r, 'a, S: Stations>(
+    rt: &'r HostRuntime,
     server: ServerAddress<'a>,
     file: File,
     first: FileRecord<'a>,
     others: &[&'a str],
     rules: &FeedRules<'_, S>,
     progress: &mut FeedProgress<'a>,
-) -> Result<SentFeed, Incident<'a>>
+) -> Result<SentFeed<'r>, Incident<'a>>
     ensures { IfOk result (λ feed. feed.count ≡ progress.new.sent.count) }
 {
-    let stream = connected(rt, server, rules.limit)?;
+    let stream = connected(rt, server, rules.limit, rules.is_shown)?;
     let feed = Feed::new(stream);
     send_over(rt, feed, rules, progress, file, first, others, server.word)
 }
 
 /// The same of files of which none is open yet.
-fn send_from<'a, S: Stations>(
-    rt: &HostRuntime,
+fn send_from<'r, 'a, S: Stations>(
+    rt: &'r HostRuntime,
     server: ServerAddress<'a>,
     first: FileRecord<'a>,
     others: &[&'a str],
     rules: &FeedRules<'_, S>,
     progress: &mut FeedProgress<'a>,
-) -> Result<SentFeed, Incident<'a>>
+) -> Result<SentFeed<'r>, Incident<'a>>
     ensures { IfOk result (λ feed. feed.count ≡ progress.new.sent.count) }
 {
     let file = input(rt, first.file)?;
@@ -257,14 +264,14 @@ fn send_from<'a, S: Stations>(
 /// its first), and shuts the sending half of the connection. All files are looked at before the connection is made, and
 /// the first one is opened. The progress counts the records that the connection has taken whole, also at a fault; what
 /// the server has read of them is not known.
-pub fn send_files<'a, S: Stations>(
-    rt: &HostRuntime,
+pub fn send_files<'r, 'a, S: Stations>(
+    rt: &'r HostRuntime,
     server: &'a str,
     files: &[&'a str],
     from: u64,
     rules: &FeedRules<'_, S>,
     progress: &mut FeedProgress<'a>,
-) -> Result<Option<SentFeed>, Incident<'a>>
+) -> Result<Option<SentFeed<'r>>, Incident<'a>>
     ensures { IfOk result (λ feed. IfSome feed (λ feed. feed.count ≡ progress.new.sent.count)) }
 {
     let server = server_of(server)?;
@@ -333,10 +340,10 @@ fn first_record(from: Option<usize>) -> u64
     }
 }
 
-/// So many seconds.
-fn limit_of(timeout: Option<usize>) -> Option<Duration> {
+/// The seconds that were asked for.
+fn limit_of(timeout: Option<usize>) -> Option<u64> {
     match timeout {
-        Some(seconds) => Some(Duration::from_secs(seconds as u64)),
+        Some(seconds) => Some(seconds as u64),
         None => None,
     }
 }
@@ -355,6 +362,7 @@ fn feed_by<'a, S: Stations>(
         is_strict: options.is_strict,
         skips: options.skips,
         limit: limit_of(options.timeout),
+        is_shown: is_verbose || is_terminal(),
     };
     let mut progress = FeedProgress::new();
     match send_and_wait(

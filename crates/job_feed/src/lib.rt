@@ -11,6 +11,7 @@ mod lines;
 mod looks;
 mod sent;
 mod skipping;
+mod waiting;
 
 pub use aligned::{Aligned, Stretch, first_beginning};
 pub use fault::FeedFault;
