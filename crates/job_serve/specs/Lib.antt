@@ -4,4 +4,5 @@ pub mod Refusals
 pub mod Serving
 pub mod Taken
 pub mod Timetables
+pub mod ToldOnce
 pub mod Turning

@@ -17,6 +17,7 @@ mod spare;
 mod starting;
 mod status;
 mod timetable;
+mod told_once;
 mod visits;
 
 pub use operator::ServeRequest;

@@ -21,6 +21,7 @@ use crate::spare::Spare;
 use crate::starting::InForceLine;
 use crate::status::StatusDesk;
 use crate::timetable::timetable_of;
+use crate::told_once::ToldOnce;
 use crate::visits::SharedLines;
 use catalog::Config;
 use command_line::ServeOptions;
@@ -96,12 +97,25 @@ pub struct Operator<'r, 'a, 'l> {
     read: ConfigText,
     /// What the configuration that was read last differs in first, but for access lists.
     difference: Option<Difference>,
+    /// Why the one that was read last was refused: told once, and again only after an hour.
+    refusal: ToldOnce,
 }
 
 impl<'a> Operator<'_, 'a, '_> {
     /// Tells an incident that ends nothing.
     fn tell(&self, incident: &Incident<'_>) {
         self.errors.write_line(&line_of(incident, self.is_verbose));
+    }
+
+    /// Tells why a configuration is refused that is read again, unless the same was told within the last hour.
+    fn tell_refusal(&mut self, incident: &Incident<'_>) {
+        let line = line_of(incident, self.is_verbose);
+        let now = self.passed();
+        let text = line.as_str().as_bytes();
+        if self.refusal.is_due(text, now) {
+            self.errors.write_line(&line);
+            self.refusal.note(self.rt.alloc(), text, now);
+        }
     }
 
     /// Tells lines that name unknown keys, if they are others than those that were told last.
@@ -135,7 +149,7 @@ impl<'a> Operator<'_, 'a, '_> {
         let incident = Failure::of(Reason::Different)
             .at(Place::File(self.path))
             .with(found);
-        self.tell(&incident);
+        self.tell_refusal(&incident);
     }
 
     /// If another configuration came into force since this was told last, it is told now: how many clients it cut, the
@@ -231,6 +245,7 @@ impl<'r, 'a, 'l> Operator<'r, 'a, 'l> {
             read,
             in_force,
             difference: None,
+            refusal: ToldOnce::new(rt.alloc()),
         }
     }
 
@@ -314,6 +329,7 @@ impl<'a> Operator<'_, 'a, '_> {
     /// The text is the one in force: there is nothing that it differs in, and no key of another one.
     fn note_unchanged(&mut self) {
         self.difference = None;
+        self.refusal.forget();
         self.unknown = Vec::new(self.rt.alloc());
         self.seen = Vec::new(self.rt.alloc());
     }
@@ -327,6 +343,7 @@ impl<'a> Operator<'_, 'a, '_> {
         match first_difference(alloc, &self.in_force, config) {
             Ok(None) => {
                 self.difference = None;
+                self.refusal.forget();
                 if self.is_logged {
                     self.note_changes(alloc, &read);
                 }
@@ -398,7 +415,7 @@ impl<'a> Between for Operator<'_, 'a, '_> {
         ensures call { Tells None None (Refuses refusal.entry ∷ []) }
     {
         match refusal {
-            Refusal::Unread(incident) => self.tell(&incident),
+            Refusal::Unread(incident) => self.tell_refusal(&incident),
             Refusal::Different => self.tell_difference(),
             Refusal::Unkept(incident) => self.note_unkept(incident),
         }
