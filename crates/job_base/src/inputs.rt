@@ -16,7 +16,9 @@ use std::fs::File;
 use std::{fs, io};
 
 /// The configuration in a file.
-pub fn config_at<'a>(rt: &HostRuntime, path: &'a str) -> Result<ConfigText, Incident<'a>> {
+pub fn config_at<'a>(rt: &HostRuntime, path: &'a str) -> Result<ConfigText, Incident<'a>>
+    ensures { IfOk result (λ read. config_read (parse_document read.text) ≡ Ok read.config) }
+{
     let text = text_at(rt, path)?;
     config_in(rt.alloc(), path, text)
 }

@@ -1,5 +1,7 @@
 //! Keys of a configuration that are not known, and so may be misspelled.
-ghost use Rattle.std.specs.Prelude.{◌≡◌, [], true, IfOk, IfErr};
+ghost use Rattle.std.specs.Prelude.{◌≡◌, [], true, IfOk, IfErr, Ok};
+ghost use Rattle.toml.specs.Parse.{parse_document};
+ghost use Rattle.catalog.specs.Reading.{config_read};
 ghost use Rattle.config_explained.specs.ConfigTexts.{keys_of};
 ghost use Rattle.protocol.specs.Catalog.{stations_of};
 ghost use Rattle.config_explained.specs.Unknown.{named, unknown_text};
@@ -73,7 +75,9 @@ pub fn checked_config_at<'a>(
     rt: &HostRuntime,
     path: &'a str,
     is_strict: bool,
-) -> Result<ConfigText, Incident<'a>> {
+) -> Result<ConfigText, Incident<'a>>
+    ensures { IfOk result (λ read. config_read (parse_document read.text) ≡ Ok read.config) }
+{
     let read = config_at(rt, path)?;
     tell_unknown_keys(rt, path, &read, is_strict)?;
     Ok(read)

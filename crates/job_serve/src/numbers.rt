@@ -3,8 +3,9 @@
 //! A keep that fails is tried again after each turn. A young station may reach the kept number within two turns, so
 //! waiting for more records would be too late. A write to a full disk mostly fails before anything is synced. It is
 //! reported once, and again only after a keep that succeeded.
-ghost use Rattle.std.specs.Prelude.{◌≡◌, IfOk, OnOk};
-ghost use Rattle.catalog.specs.Numbers.{config_by};
+ghost use Rattle.std.specs.Prelude.{◌≡◌, All, IfOk, OnOk, map};
+ghost use Rattle.catalog.specs.Numbers.{config_by, numbered};
+ghost use Rattle.number_file.specs.Keeping.{AreKeepable, IsKeepable};
 ghost use Rattle.number_file.specs.Tables.{with_nexts};
 ghost use Rattle.serving.specs.Ahead.{ahead_of};
 ghost use Rattle.job_serve.specs.KeptNumbers.{IsText};
@@ -38,12 +39,13 @@ pub struct NumberFile<'a> {
 
 impl<'a> NumberFile<'a> {
     /// Locks a file of numbers, reads it, and has the stations of a configuration begin with them. One that is not
-    /// there has none.
+    /// there has none. The configuration is one that was read, so that its stations' numbers can be kept.
     pub fn open(
         rt: &HostRuntime,
         path: &'a str,
         config: &mut Config,
     ) -> Result<NumberFile<'a>, Incident<'a>>
+        requires { AreKeepable (map numbered config.old.entries) }
         ensures { IfOk result (λ file. config.new ≡ config_by file.first.items config.old) }
     {
         let place = place_named(rt, path)?;
@@ -65,6 +67,8 @@ impl<'a> NumberFile<'a> {
         first: Vec<KeptNumber>,
         config: &Config,
     ) -> Result<NumberFile<'a>, AllocError>
+        requires first { All IsKeepable first.items }
+        requires stations { AreKeepable (map numbered config.now.entries) }
         ensures { IfOk result (λ file. file.first.items ≡ first.items) }
     {
         let table = NumberTable::new(alloc, config, first.as_slice())?;
@@ -169,7 +173,9 @@ fn kept_at<'a>(
     rt: &HostRuntime,
     place: &str,
     path: &'a str,
-) -> Result<Vec<KeptNumber>, Incident<'a>> {
+) -> Result<Vec<KeptNumber>, Incident<'a>>
+    ensures { IfOk result (λ numbers. All IsKeepable numbers.items) }
+{
     match fs::open(rt, place) {
         Ok(file) => kept_in(rt, file, path),
         Err(reason) if reason.kind() == io::ErrorKind::NotFound => Ok(Vec::new(rt.alloc())),
@@ -182,7 +188,9 @@ fn kept_in<'a>(
     rt: &HostRuntime,
     file: File,
     path: &'a str,
-) -> Result<Vec<KeptNumber>, Incident<'a>> {
+) -> Result<Vec<KeptNumber>, Incident<'a>>
+    ensures { IfOk result (λ numbers. All IsKeepable numbers.items) }
+{
     let text = match text_in(rt, file) {
         Ok(text) => text,
         Err(reason) => return Err(unopened(path, reason)),

@@ -1,5 +1,7 @@
 //! What a server has before it listens: where it is to, whom it takes, and what its files say.
-ghost use Rattle.std.specs.Prelude.{◌≡◌, IfOk, IfSome, Some, is_some};
+ghost use Rattle.std.specs.Prelude.{◌≡◌, IfOk, IfSome, Some, is_some, map};
+ghost use Rattle.catalog.specs.Numbers.{numbered};
+ghost use Rattle.number_file.specs.Keeping.{AreKeepable};
 ghost use Rattle.job_base.specs.Endpoints.{endpoint_of, endpoint_value};
 ghost use Rattle.job_serve.specs.Admitting.{AsksBy, FromList};
 
@@ -130,7 +132,9 @@ fn numbers_at<'a>(
     rt: &HostRuntime,
     path: &'a str,
     config: &mut Config,
-) -> Result<Box<NumberFile<'a>>, Incident<'a>> {
+) -> Result<Box<NumberFile<'a>>, Incident<'a>>
+    requires { AreKeepable (map numbered config.old.entries) }
+{
     match Box::new(rt.alloc(), NumberFile::open(rt, path, config)?) {
         Ok(file) => Ok(file),
         Err(_) => Err(Incident::out_of_memory()),

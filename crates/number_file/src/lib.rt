@@ -6,9 +6,11 @@
 //! lost; one that is not there is a first start.
 #![tactic(auto)]
 
+mod laws;
 mod reading;
 mod table;
 mod writing;
 
+pub use laws::{numbers_come_back, what_is_read_can_be_kept};
 pub use reading::read_numbers;
 pub use table::NumberTable;

@@ -1,8 +1,9 @@
 //! What a file of numbers says.
-ghost use Rattle.std.specs.Prelude.{◌≡◌, ◌≢◌, [], map, IfOk, IfErr, OnOk, Ok, Err, Some};
+ghost use Rattle.std.specs.Prelude.{◌≡◌, ◌≢◌, [], map, All, IfOk, IfErr, OnOk, Ok, Err, Some};
 ghost use Rattle.std.specs.Str.{IsUtf8};
 ghost use Rattle.toml.specs.Parse.{parse_document};
 ghost use Rattle.toml.specs.View.{table_view, view};
+ghost use Rattle.number_file.specs.Keeping.{IsKeepable};
 ghost use Rattle.number_file.specs.Reading.{next_of, number_in, numbers_after, numbers_of, numbers_read};
 
 use catalog::keys::{elements_at, table_in, table_of, text_at};
@@ -13,12 +14,13 @@ use std::alloc::Global;
 use toml::{Table, Value};
 
 /// Reads the text of a file of numbers: TOML in UTF-8, in which `station` is an array of tables with `network`, `code`
-/// and `next`, as a configuration has them and its `first`. Other keys are ignored.
+/// and `next`, as a configuration has them and its `first`. Other keys are ignored. What was read can be kept.
 ///
 /// It fails with Toml where the bytes are no UTF-8 or no TOML; with Missing where a key is missing or has a value of
 /// another kind; with Limit where a value is outside its limits; and with OutOfMemory only where there is no memory.
 pub fn read_numbers(alloc: Global, bytes: &[u8]) -> Result<Vec<KeptNumber>, ConfigFault>
     ensures ok { IfOk result (λ numbers. numbers_read (parse_document bytes.now) ≡ Ok numbers.items) }
+    ensures keepable { IfOk result (λ numbers. All IsKeepable numbers.items) }
     ensures text { OnOk result (IsUtf8 bytes.now) }
     ensures fault { IfErr result (λ e. e ≢ ConfigFault.OutOfMemory → IsUtf8 bytes.now
         → numbers_read (parse_document bytes.now) ≡ Err e) }

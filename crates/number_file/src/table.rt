@@ -1,6 +1,9 @@
 //! The numbers that a server keeps.
-ghost use Rattle.std.specs.Prelude.{◌≡◌, ◌<◌, ◌++◌, filter, map, length, slice_set, slice_get, IfOk, OnOk, Some};
+ghost use Rattle.std.specs.Prelude.{◌≡◌, ◌<◌, ◌++◌, filter, map, length, slice_set, slice_get, All, IfOk, Ok, OnOk, Some};
+ghost use Rattle.toml.specs.Parse.{parse_document};
 ghost use Rattle.catalog.specs.Numbers.{Numbered, numbered};
+ghost use Rattle.number_file.specs.Keeping.{AreKeepable, IsKeepable};
+ghost use Rattle.number_file.specs.Reading.{numbers_read};
 ghost use Rattle.number_file.specs.Tables.{is_of_another, with_next};
 ghost use Rattle.number_file.specs.Text.{text_of};
 
@@ -19,20 +22,25 @@ pub struct NumberTable {
 impl Model for NumberTable {
     ghost use Rattle.std.specs.Prelude.{List};
     ghost use Rattle.catalog.specs.Numbers.{Numbered};
+    ghost use Rattle.number_file.specs.Keeping.{AreKeepable};
 
     ghost Value = { List Numbered };
 
     ghost view = { λ t. t.numbers.items };
+
+    ghost invariant = { λ t. AreKeepable t.numbers.items };
 }
 
 impl NumberTable {
     /// The first numbers of a configuration's stations, and of what was kept the numbers of stations that it does not
-    /// have. Only memory can lack.
+    /// have. All of them can be kept. Only memory can lack.
     pub fn new(
         alloc: Global,
         config: &Config,
         kept: &[KeptNumber],
     ) -> Result<NumberTable, AllocError>
+        requires stations { AreKeepable (map numbered config.now.entries) }
+        requires kept { All IsKeepable kept.now }
         ensures { IfOk result (λ table. table
             ≡ map numbered config.now.entries ++ filter (is_of_another config.now) kept.now) }
     {
@@ -45,12 +53,14 @@ impl NumberTable {
     pub fn set(&mut self, place: usize, next: Seq)
         ensures { self.new ≡ with_next self.old place next }
     {
+        let _below = next.value();
         set_next(&mut self.numbers, place, next);
     }
 
-    /// Its text takes the place of another text. It takes no memory where there is room for it.
+    /// Its text takes the place of another text. It is read as this table. It takes no memory where there is room for it.
     pub fn write(&self, text: &mut Vec<u8>) -> Result<(), AllocError>
-        ensures { OnOk result (text.new.items ≡ text_of self.now) }
+        ensures text { OnOk result (text.new.items ≡ text_of self.now) }
+        ensures read { OnOk result (numbers_read (parse_document text.new.items) ≡ Ok self.now) }
     {
         text.clear();
         push_numbers(text, self.numbers.as_slice())
