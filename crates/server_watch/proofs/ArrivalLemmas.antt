@@ -1,6 +1,6 @@
 -- What is known of all stations, one after the other.
 use Rattle.std.proofs.Common.{◌≡◌, ℕ, ◌+◌, ◌<◌, zero, suc, List, [], ◌∷◌, length, get_or, refl, ap, sym, ◌∙◌, arith}
-use Rattle.std.proofs.Common.{Option, Some, None, add-one, subst}
+use Rattle.std.proofs.Common.{Option, add-one}
 use Rattle.std.specs.Prelude.{slice_get, slice_set}
 use Rattle.station_ring.specs.Rings.{RingValue}
 use Rattle.server_watch.specs.declared.arrivals.Arrivals.{Arrivals}

@@ -1,3 +1,4 @@
 mod ArrivalLemmas
 mod MinuteLemmas
 mod BehindLemmas
+mod StationLemmas

@@ -1,10 +1,14 @@
 -- What is told of a running server: when the last record of a station came, and how far behind a client is.
 -- This project's own.
-use Rattle.std.specs.Prelude.{◌≡◌, ℕ, ◌+◌, ◌-◌, ◌/◌, ◌^◌, min, nat_lt, if◌then◌else◌, List, [], ◌∷◌}
-use Rattle.std.specs.Prelude.{Option, Some, None, option_map, slice_get}
+use Rattle.std.specs.Prelude.{◌≡◌, ℕ, ◌+◌, ◌-◌, ◌/◌, ◌^◌, ◌<◌, ◌≤◌, min, nat_lt, if◌then◌else◌, List, [], ◌∷◌, length}
+use Rattle.std.specs.Prelude.{Option, Some, None, Vec, option_map, slice_get, slice_index_or}
+use Rattle.std.specs.Option.{unwrap_or}
+use Rattle.std.specs.declared.alloc.Global.{Global}
 use Rattle.ports.specs.declared.present.PresentClient.{PresentClient}
 use Rattle.protocol.specs.Catalog.{Entry as ConfigEntry}
 use Rattle.session_state.specs.declared.choices.Entry.{Entry}
+use Rattle.session_state.specs.declared.session.State.{State}
+use Rattle.session_state.specs.declared.session.State.TheVariants.{Transfer}
 use Rattle.station_ring.specs.HeldRecords.{RingsValue}
 use Rattle.station_ring.specs.Rings.{RingValue}
 use Rattle.status_page.specs.declared.value.ClientStatus.{ClientStatus}
@@ -65,6 +69,27 @@ pub record TellsOf (now place : ℕ) (entry : ConfigEntry) (rings : RingsValue) 
   pub records : Some s.records ≡ option_map (λ r. r.pushes) (slice_get rings.rings place)
   pub age : Some s.age ≡ option_map (age_of now) (slice_get arrivals place)
   pub users : s.users.now ≡ listed
+
+-- who is listed as one who may use the station at a place
+abbrev pub listed_at : List (Vec ℕ Global) → ℕ → List ℕ
+listed_at users place = unwrap_or (option_map (λ u. u.items) (slice_get users place)) []
+
+-- There is a ring, what is known of its records, and a count of followers for each of so many stations.
+abbrev pub Knows : (stations : ℕ) → RingsValue → List Arrivals → (followers : List ℕ) → Type 0
+Knows stations rings arrivals followers =
+    (stations ≤ length rings.rings) × (stations ≤ length arrivals) × (stations ≤ length followers)
+
+-- What is told of the stations of a configuration, in its order: of each its own, and nothing else.
+pub record TellOf (now : ℕ) (entries : List ConfigEntry) (rings : RingsValue) (arrivals : List Arrivals)
+    (users : List (Vec ℕ Global)) (told : List StationStatus) : Type 0 where
+  pub count : length told ≡ length entries
+  pub each : (k : ℕ) (e : ConfigEntry) (s : StationStatus) → k < length told
+      → TellsOf now k (slice_index_or entries k e) rings arrivals (listed_at users k) (slice_index_or told k s)
+
+-- how many records are ahead of a client, by what its session is in the middle of: none without a transfer
+abbrev pub ahead_by : State → RingsValue → List Entry → ℕ
+ahead_by (Transfer from) rings es = behind_from 0 rings es
+ahead_by _ rings es = 0
 
 -- what is told of a client, by its port and by who is there: nothing counts for one that is not in the table
 abbrev pub with_visitor_of : (now port named behind : ℕ) → Option PresentClient → ClientStatus

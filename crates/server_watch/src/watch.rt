@@ -1,11 +1,15 @@
 //! A server that is watched.
-ghost use Rattle.std.specs.Prelude.{◌≡◌, ◌≢◌, ◌/◌, [], IfOk, IfSome, Some, false, length, map, option_map, slice_get};
-ghost use Rattle.std.specs.Option.{unwrap_or};
+ghost use Rattle.std.specs.Prelude.{◌≡◌, ◌≢◌, ◌/◌, ◌<◌, ◌-◌, ◌^◌, IfOk, IfSome, IsSome, Some, List, false, true, length, map};
+ghost use Rattle.std.specs.List.Sorted.{IsNonDecreasingBy, IsPermutation};
 ghost use Rattle.protocol.specs.Catalog.{Config as ProtocolConfig};
 ghost use Rattle.protocol.specs.World.{World};
 ghost use Rattle.server_core.specs.ServerValues.{StandsAt};
 ghost use Rattle.event_loop.specs.Hearing.{clients_in, feeds_in};
-ghost use Rattle.server_watch.specs.Watching.{TellsOf, all_noted, reaching, with_visitor_of};
+ghost use Rattle.session_state.specs.Choices.{chosen_of};
+ghost use Rattle.session_state.specs.NamedValues.{entry_of};
+ghost use Rattle.status_page.specs.declared.value.StationStatus.{StationStatus as StationValue};
+ghost use Rattle.server_watch.specs.Watching.{Knows, TellOf, TellsOf, ahead_by, all_noted, listed_at, reaching};
+ghost use Rattle.server_watch.specs.Watching.{with_visitor_of};
 
 use crate::arrivals::{Arrivals, note_all, reach_all};
 use crate::behind::behind_of;
@@ -162,8 +166,10 @@ impl Watch {
         rings: &Rings,
         users: &'x [Vec<u8>],
     ) -> Option<StationStatus<'x>>
-        ensures { IfSome result (TellsOf now place station.now rings.now self.now.arrivals.items
-            (unwrap_or (option_map (λ u. u.items) (slice_get users.now place)) [])) }
+        ensures told { IfSome result (TellsOf now place station.now rings.now self.now.arrivals.items
+            (listed_at users.now place)) }
+        ensures there { place < length rings.now.rings → place < length self.now.arrivals.items →
+            place < length self.now.crowd.followers.items → IsSome result }
     {
         let ring = rings.ring(place)?;
         let arrivals = self.arrivals.get(place)?;
@@ -184,6 +190,31 @@ impl Watch {
         })
     }
 
+    /// What is told of stations, in their order. The list is made anew; only memory for it can lack.
+    fn stations_of<'x>(
+        &'x self,
+        alloc: Global,
+        now: u64,
+        all: &'x [Station],
+        rings: &Rings,
+        users: &'x [Vec<u8>],
+    ) -> Result<Vec<StationStatus<'x>>, AllocError>
+        ensures { IfOk result (λ told.
+            Knows (length all.now) rings.now self.now.arrivals.items self.now.crowd.followers.items →
+            TellOf now all.now rings.now self.now.arrivals.items users.now told.items) }
+    {
+        let mut stations = Vec::with_capacity(alloc, all.len())?;
+        for (place, station) in all.iter().enumerate() {
+            if let Some(status) = self.station_at(now, place, station, rings, users) {
+                // There is room for it.
+                if stations.push(status).is_err() {
+                    return Err(AllocError);
+                }
+            }
+        }
+        Ok(stations)
+    }
+
     /// What is told of all stations, in the order of the configuration or by age, with a text for each of who may use
     /// it. The list is made anew; only memory for it can lack.
     pub fn stations<'x, P: Ports>(
@@ -193,16 +224,17 @@ impl Watch {
         server: &'x Loop<P>,
         users: &'x [Vec<u8>],
         is_by_age: bool,
-    ) -> Result<Vec<StationStatus<'x>>, AllocError> {
+    ) -> Result<Vec<StationStatus<'x>>, AllocError>
+        ensures told { IfOk result (λ told. (ordered : List StationValue) × (is_by_age ≡ false → told.items ≡ ordered)
+            × IsPermutation ordered told.items
+            × (Knows (length server.now.server.config.entries) server.now.server.rings self.now.arrivals.items
+            self.now.crowd.followers.items → TellOf now server.now.server.config.entries server.now.server.rings
+            self.now.arrivals.items users.now ordered)) }
+        ensures by_age { IfOk result (λ told. is_by_age ≡ true →
+            IsNonDecreasingBy (λ (s : StationValue). 2 ^ 64 - 1 - s.age) told.items) }
+    {
         let config = server.server().config();
-        let rings = server.rings();
-        let mut stations = Vec::with_capacity(alloc, config.stations().len())?;
-        for (place, station) in config.stations().iter().enumerate() {
-            if let Some(status) = self.station_at(now, place, station, rings, users) {
-                // There is room for it.
-                let _ = stations.push(status);
-            }
-        }
+        let mut stations = self.stations_of(alloc, now, config.stations(), server.rings(), users)?;
         if is_by_age {
             stations.sort_by_key(|station| u64::MAX - station.age)?;
         }
@@ -268,7 +300,7 @@ fn last_of(ring: &Ring) -> Option<LastRecord> {
 
 /// Who may use the station at a place, by texts for all.
 fn users_at<'x>(users: &'x [Vec<u8>], place: usize) -> &'x [u8]
-    ensures { result.now ≡ unwrap_or (option_map (λ u. u.items) (slice_get users.now place)) [] }
+    ensures { result.now ≡ listed_at users.now place }
 {
     match users.get(place) {
         Some(users) => users.as_slice(),
@@ -277,7 +309,9 @@ fn users_at<'x>(users: &'x [Vec<u8>], place: usize) -> &'x [u8]
 }
 
 /// How many records of the stations that it named a client's transfer has not looked at.
-fn behind_in(rings: &Rings, session: &Session) -> u64 {
+fn behind_in(rings: &Rings, session: &Session) -> u64
+    ensures { result ≡ ahead_by session.now.state rings.now (map entry_of (chosen_of session.now.mode)) }
+{
     match session.state() {
         State::Transfer(_) => behind_of(rings, session.choices()),
         _ => 0,

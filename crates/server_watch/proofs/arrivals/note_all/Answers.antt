@@ -1,4 +1,4 @@
-use Rattle.std.proofs.Common.{◌≡◌, ◌<◌, ◌∙◌, arith, length}
+use Rattle.std.proofs.Common.{◌<◌, ◌∙◌, arith, length}
 use Rattle.std.proofs.lemmas.List.{get_or_default}
 use Rattle.server_watch.proofs.ArrivalLemmas.{all_of, noted_next}
 use Rattle.server_watch.proofs.arrivals.note_all.Goals as goal

@@ -1,4 +1,4 @@
-use Rattle.std.proofs.Common.{◌≡◌, ℕ, ◌+◌, ◌<◌, ◌≤◌, length, get_or, arith}
+use Rattle.std.proofs.Common.{◌≡◌, ◌<◌, length, arith}
 use Rattle.server_watch.proofs.MinuteLemmas.{shifted_is}
 use Rattle.server_watch.proofs.minutes.shift.Goals as goal
 
