@@ -14,6 +14,7 @@ use Rattle.protocol.specs.Access.{Token}
 use Rattle.protocol.specs.Catalog.{Config, Entry}
 use Rattle.protocol.specs.Packet.{hex_digit, hex_number, number_of, numbers}
 use Rattle.protocol.proofs.Digits.{first_digit}
+use Rattle.catalog.specs.Groups.{groups_of}
 use Rattle.catalog.specs.Keys.{elements_at, table_in, text_at, text_if_any}
 use Rattle.catalog.specs.Numbers.{Numbered, numbered}
 use Rattle.catalog.specs.Reading.{config_of, config_read, entry_of, is_few, is_repeated, not_repeated, station_of}
@@ -113,14 +114,14 @@ abbrev settings_with : List ℕ → ℕ → ℕ → Option (List Token) → Sett
 settings_with description capacity first access =
     record { description = description; capacity = capacity; first = first; access = access }
 
-settings_low : (members : Members) (s : SettingsValue) → settings_of members ≡ Ok s → s.first < numbers
-settings_low members s h =
+settings_low : (groups : Option Members) (members : Members) (s : SettingsValue) → settings_of groups members ≡ Ok s → s.first < numbers
+settings_low groups members s h =
     let (d, at_d, h1) = taken (description_of members) (λ d. capacity_of members >>= (λ c. first_of members
-    >>= (λ f. access_of members >>= (λ a. Ok (settings_with d c f a))))) s h in
+    >>= (λ f. access_of groups members >>= (λ a. Ok (settings_with d c f a))))) s h in
     let (c, at_c, h2) = taken (capacity_of members) (λ c. first_of members
-    >>= (λ f. access_of members >>= (λ a. Ok (settings_with d c f a)))) s h1 in
-    let (f, at_f, h3) = taken (first_of members) (λ f. access_of members >>= (λ a. Ok (settings_with d c f a))) s h2 in
-    let (a, at_a, h4) = taken (access_of members) (λ a. Ok (settings_with d c f a)) s h3 in
+    >>= (λ f. access_of groups members >>= (λ a. Ok (settings_with d c f a)))) s h1 in
+    let (f, at_f, h3) = taken (first_of members) (λ f. access_of groups members >>= (λ a. Ok (settings_with d c f a))) s h2 in
+    let (a, at_a, h4) = taken (access_of groups members) (λ a. Ok (settings_with d c f a)) s h3 in
     let same : settings_with d c f a ≡ s = cc in
     subst (λ (s : SettingsValue). s.first < numbers) same (first_is members f at_f)
 
@@ -136,47 +137,49 @@ entry_with network code s = record {
   access = s.access;
 }
 
-entry_keepable : (members : Members) (e : Entry) → entry_of members ≡ Ok e → IsKeepable (numbered e)
+entry_keepable : (groups : Option Members) (members : Members) (e : Entry)
+    → entry_of groups members ≡ Ok e → IsKeepable (numbered e)
 unfolding entry_of
-entry_keepable members e h =
+entry_keepable groups members e h =
     let (network, at_network, h1) = taken (network_of members) (λ network. code_of members >>= (λ code.
-    settings_of members >>= (λ s. Ok (entry_with network code s)))) e h in
+    settings_of groups members >>= (λ s. Ok (entry_with network code s)))) e h in
     let (code, at_code, h2) = taken (code_of members) (λ code.
-    settings_of members >>= (λ s. Ok (entry_with network code s))) e h1 in
-    let (s, at_s, h3) = taken (settings_of members) (λ s. Ok (entry_with network code s)) e h2 in
+    settings_of groups members >>= (λ s. Ok (entry_with network code s))) e h1 in
+    let (s, at_s, h3) = taken (settings_of groups members) (λ s. Ok (entry_with network code s)) e h2 in
     let same : entry_with network code s ≡ e = cc in
     subst (λ (e : Entry). IsKeepable (numbered e)) same (record {
       network = network_is members network at_network;
       code = code_is members code at_code;
-      below = settings_low members s at_s;
+      below = settings_low groups members s at_s;
     })
 
 new_is : (repeated : Bool) (x e : Entry) → (if repeated then Err Duplicate else Ok x) ≡ Ok e → x ≡ e
 new_is true x e h = absurd cc
 new_is false x e h = cc
 
-station_keepable : (earlier : List Entry) (d : Data) (e : Entry) → station_of earlier d ≡ Ok e → IsKeepable (numbered e)
+station_keepable : (groups : Option Members) (earlier : List Entry) (d : Data) (e : Entry)
+    → station_of groups earlier d ≡ Ok e → IsKeepable (numbered e)
 unfolding station_of
-station_keepable earlier d e h =
-    let (members, at_table, h1) = taken (table_in d) (λ members. entry_of members >>= not_repeated earlier) e h in
-    let (x, at_entry, h2) = taken (entry_of members) (not_repeated earlier) e h1 in
+station_keepable groups earlier d e h =
+    let (members, at_table, h1) = taken (table_in d) (λ members. entry_of groups members >>= not_repeated earlier) e h in
+    let (x, at_entry, h2) = taken (entry_of groups members) (not_repeated earlier) e h1 in
     subst (λ (e : Entry). IsKeepable (numbered e)) (new_is (is_repeated earlier x.station) x e h2)
-    (entry_keepable members x at_entry)
+    (entry_keepable groups members x at_entry)
 
 -- stations that were read
 record AreRead (earlier : List Entry) (count : ℕ) (all : List Entry) : Type 0 where
   size : length all ≡ length earlier + count
   each : All (λ e. IsKeepable (numbered e)) all
 
-stations_keepable : (earlier : List Entry) (ds : List Data) (all : List Entry)
-    → All (λ e. IsKeepable (numbered e)) earlier → stations_read earlier ds ≡ Ok all → AreRead earlier (length ds) all
-stations_keepable earlier [] all each h =
+stations_keepable : (groups : Option Members) (earlier : List Entry) (ds : List Data) (all : List Entry)
+    → All (λ e. IsKeepable (numbered e)) earlier → stations_read groups earlier ds ≡ Ok all → AreRead earlier (length ds) all
+stations_keepable groups earlier [] all each h =
     let same : earlier ≡ all = cc in
     subst (λ (l : List Entry). AreRead earlier 0 l) same (record { size = omega arith; each = each })
-stations_keepable earlier (d ∷ ds) all each h =
-    let (e, at_e, h1) = taken (station_of earlier d) (λ e. stations_read (earlier ++ e ∷ []) ds) all h in
-    let rest = stations_keepable (earlier ++ e ∷ []) ds all
-    (All-push (λ e. IsKeepable (numbered e)) earlier e each (station_keepable earlier d e at_e)) h1 in
+stations_keepable groups earlier (d ∷ ds) all each h =
+    let (e, at_e, h1) = taken (station_of groups earlier d) (λ e. stations_read groups (earlier ++ e ∷ []) ds) all h in
+    let rest = stations_keepable groups (earlier ++ e ∷ []) ds all
+    (All-push (λ e. IsKeepable (numbered e)) earlier e each (station_keepable groups earlier d e at_e)) h1 in
     record { size = omega (arith, rest.size, length-append earlier (e ∷ [])); each = rest.each }
 
 values_some : (members : Members) (values : List Data) → station_values members ≡ Ok values → 0 < length values
@@ -192,9 +195,9 @@ entries_keepable : (members : Members) (entries : List Entry) → stations_of me
     → AreKeepable (map numbered entries)
 unfolding stations_of
 entries_keepable members entries h =
-    let (values, at, h1) = taken (station_values members) (stations_read []) entries h in
+    let (values, at, h1) = taken (station_values members) (stations_read (groups_of members) []) entries h in
     let some = values_some members values at in
-    let read = stations_keepable [] values entries (All-nil (λ e. IsKeepable (numbered e))) h1 in
+    let read = stations_keepable (groups_of members) [] values entries (All-nil (λ e. IsKeepable (numbered e))) h1 in
     let count : length (map numbered entries) ≡ length entries = simp length-map in
     (omega (arith, read.size), All-map IsKeepable numbered entries read.each)
 
@@ -206,9 +209,9 @@ config_keepable : (members : Members) (config : Config) → config_of members �
     → AreKeepable (map numbered config.entries)
 unfolding config_of
 config_keepable members config h =
-    let (title, at_title, h1) = taken (title_of members) (λ title. access_of members >>= (λ access.
+    let (title, at_title, h1) = taken (title_of members) (λ title. access_of (groups_of members) members >>= (λ access.
     connections_of members >>= (λ n. stations_of members >>= (λ es. Ok (config_with title access n es))))) config h in
-    let (access, at_access, h2) = taken (access_of members) (λ access. connections_of members >>= (λ n.
+    let (access, at_access, h2) = taken (access_of (groups_of members) members) (λ access. connections_of members >>= (λ n.
     stations_of members >>= (λ es. Ok (config_with title access n es)))) config h1 in
     let (n, at_n, h3) = taken (connections_of members) (λ n.
     stations_of members >>= (λ es. Ok (config_with title access n es))) config h2 in
