@@ -79,7 +79,7 @@ for page in CHANGELOG.md docs/PROFILE.md docs/CONFIGURATION.md docs/COMMANDS.md 
     sed 's|](docs/|](|g; s|](\.\./examples/|](examples/|g; s|\[\([^]]*\)\](\.\./[^)]*)|\1|g' "$page" |
         put_text "usr/share/doc/seedlinkd/$(basename "$page")"
 done
-for example in examples/* examples/records/* examples/many_servers/*; do
+for example in examples/* examples/records/* examples/many_servers/* examples/prometheus/*; do
     if [ -x "$example" ] && [ -f "$example" ]; then put 755 "$example" "usr/share/doc/seedlinkd/$example"
     elif [ -f "$example" ]; then put 644 "$example" "usr/share/doc/seedlinkd/$example"; fi
 done
