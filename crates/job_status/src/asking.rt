@@ -3,7 +3,7 @@ use crate::status_fault::StatusFault;
 use files::milliseconds;
 use incidents::Failure;
 use sl_io::{Outer, write_all};
-use std::io::Read;
+use std::io::{self, Read};
 use std::net::TcpStream;
 use std::time::Duration;
 
@@ -19,9 +19,22 @@ const MOST: usize = 1 << 22;
 /// How many bytes a read asks for.
 const BLOCK: usize = 65_536;
 
-/// What failed while a status port was to answer.
-fn ended() -> Failure {
-    StatusFault::Ended.failure()
+/// Why an answer did not come, by how many bytes of it did.
+fn unanswered(came: usize) -> Failure {
+    if came == 0 {
+        StatusFault::Quiet.failure()
+    } else {
+        StatusFault::Ended.failure()
+    }
+}
+
+/// What is said of a connection that ended, by how many bytes came.
+fn closed(came: usize) -> Failure {
+    if came == 0 {
+        StatusFault::Closed.failure()
+    } else {
+        StatusFault::Ended.failure()
+    }
 }
 
 /// Asks over a connection.
@@ -29,7 +42,15 @@ fn put_question(stream: &TcpStream) -> Result<(), Failure> {
     let mut out = Outer::new(stream);
     match write_all(&mut out, QUESTION) {
         Ok(()) => Ok(()),
-        Err(_) => Err(ended()),
+        Err(_) => Err(closed(0)),
+    }
+}
+
+/// Why a read failed: its time was over, or the connection broke off.
+fn unread(reason: io::Error, came: usize) -> Failure {
+    match reason.kind() {
+        io::ErrorKind::WouldBlock | io::ErrorKind::TimedOut => unanswered(came),
+        _ => closed(came),
     }
 }
 
@@ -39,18 +60,26 @@ fn read_within(stream: &TcpStream, bytes: &mut Vec<u8>, left: u64) -> Result<usi
         .set_read_timeout(Some(Duration::from_millis(left)))
         .is_err()
     {
-        return Err(ended());
+        return Err(closed(bytes.len()));
     }
     let mut block = [0u8; BLOCK];
     let mut from = stream;
     let count = match from.read(&mut block) {
         Ok(count) => count.min(BLOCK),
-        Err(_) => return Err(ended()),
+        Err(reason) => return Err(unread(reason, bytes.len())),
     };
     match bytes.extend_from_slice(&block[..count]) {
         Ok(()) => Ok(count),
         Err(_) => Err(Failure::out_of_memory()),
     }
+}
+
+/// What came, if anything did.
+fn whole(bytes: Vec<u8>) -> Result<Vec<u8>, Failure> {
+    if bytes.is_empty() {
+        return Err(closed(0));
+    }
+    Ok(bytes)
 }
 
 /// Takes what is answered, to the end of the connection, within ten seconds, and 4 MiB at most.
@@ -60,18 +89,18 @@ fn take_answer(rt: &HostRuntime, stream: &TcpStream) -> Result<Vec<u8>, Failure>
     for _ in 0..MOST {
         let passed = milliseconds(rt).saturating_sub(begin);
         if passed >= PATIENCE || bytes.len() > MOST {
-            return Err(ended());
+            return Err(unanswered(bytes.len()));
         }
         if read_within(stream, &mut bytes, PATIENCE - passed)? == 0 {
-            return Ok(bytes);
+            return whole(bytes);
         }
     }
-    Err(ended())
+    Err(unanswered(bytes.len()))
 }
 
-/// Asks a status port for its two tables over a connection, and takes what it answers. It fails with Status Ended if
-/// the answer was not there after ten seconds, if it is longer than 4 MiB or if the connection broke off, and for want
-/// of memory.
+/// Asks a status port for its two tables over a connection, and takes what it answers. It fails with Status Quiet if
+/// nothing came for ten seconds, with Status Closed if the connection ended before anything came, with Status Ended if
+/// it ended later, the answer was not there after ten seconds or is longer than 4 MiB, and for want of memory.
 pub fn ask(rt: &HostRuntime, stream: &TcpStream) -> Result<Vec<u8>, Failure> {
     put_question(stream)?;
     take_answer(rt, stream)

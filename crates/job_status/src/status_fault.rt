@@ -8,7 +8,11 @@ use protocol::reason::Reason;
 /// Why a status port's answer was not taken.
 #[derive(Clone, Copy, Drop)]
 pub enum StatusFault {
-    /// The connection ended, or nothing came, before all of it was there.
+    /// Nothing came for as long as an answer is waited for.
+    Quiet,
+    /// The connection was closed before anything came.
+    Closed,
+    /// The connection ended, or the time was over, before all of it was there.
     Ended,
     /// It is not the answer of a status port.
     Other,
@@ -20,7 +24,7 @@ impl StatusFault {
         ensures { result ≡ status_reason self }
     {
         match self {
-            StatusFault::Ended => Reason::Read,
+            StatusFault::Quiet | StatusFault::Closed | StatusFault::Ended => Reason::Read,
             StatusFault::Other => Reason::BadReply,
         }
     }
@@ -28,9 +32,14 @@ impl StatusFault {
     /// What it is in a sentence.
     fn cause(self) -> &'static str {
         match self {
-            StatusFault::Ended => {
-                "the connection ended before the whole answer came; perhaps the status port tells nothing to this address"
+            StatusFault::Quiet => {
+                "nothing came for ten seconds: perhaps the server is stopped, or this is its port for feeds"
             }
+            StatusFault::Closed => {
+                "the connection was closed without an answer: perhaps the status port tells nothing to this address"
+            }
+            StatusFault::Ended =>
+                "the connection ended, or ten seconds were over, before the whole answer came",
             StatusFault::Other =>
                 "the answer is not that of a status port; perhaps this is another port of the server",
         }
