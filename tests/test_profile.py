@@ -11,7 +11,7 @@ import kit
 STATION = '[[station]]\nnetwork = "%s"\ncode = "%s"\ndescription = ""\ncapacity = 256\n'
 ISLAND = 'title = "Island"\n' + "".join(STATION % it for it in (("GE", "APE"), ("GE", "WLF"), ("XX", "APE")))
 JOBS = ("serve", "feed", "read", "view", "check", "replay")
-KINDS = {"Text": "text", "WholeNumber": "whole number", "Tables": "array of tables"}
+KINDS = {"Text": "text", "WholeNumber": "whole number", "Table": "table", "Tables": "array of tables"}
 
 
 def text_of(path):
