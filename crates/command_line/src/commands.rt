@@ -125,7 +125,7 @@ fn status_command<'a>(alloc: Global) -> Built<'a>
     ensures { Builds result status_app }
 {
     let about =
-        "Prints how a server stands, by its status port; ends with 1 if a station is silent";
+        "Prints how a server stands, by its status port; ends with 3 if a station is silent";
     command_by(alloc, "status", about, &STATUS)
 }
 

@@ -6,3 +6,4 @@ pub mod Taken
 pub mod Timetables
 pub mod ToldOnce
 pub mod Turning
+pub mod Limits

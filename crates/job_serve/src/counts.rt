@@ -11,8 +11,26 @@ use status_page::NamedCount;
 use std::alloc::{AllocError, Global};
 use std::cell::{Ref, RefCell};
 
-/// How many reasons of refused records are told apart.
-const REASONS: usize = 64;
+/// For what records are refused.
+static REFUSALS: [Reason; 8] = [
+    Reason::Sequence,
+    Reason::Quality,
+    Reason::Time,
+    Reason::Blockettes,
+    Reason::No1000,
+    Reason::Length,
+    Reason::UnknownStation,
+    Reason::Exhausted,
+];
+
+/// For what connections are turned away.
+static AWAY: [AwayReason; 5] = [
+    AwayReason::MaxConnections,
+    AwayReason::Feeds,
+    AwayReason::Memory,
+    AwayReason::FeedFrom,
+    AwayReason::PerAddress,
+];
 
 /// What was counted.
 #[derive(Drop)]
@@ -39,28 +57,51 @@ fn name_of(reason: AwayReason) -> &'static str {
     }
 }
 
-/// Counts one more by its name. A name for which there is no room is not counted.
-fn count(counts: &mut Vec<NamedCount<'static>>, name: &'static str) {
+/// A name that was not counted yet.
+fn uncounted(name: &'static str) -> NamedCount<'static> {
+    NamedCount {
+        name: name.as_bytes(),
+        count: 0,
+    }
+}
+
+/// Each reason for which a record is refused, not counted yet.
+fn refusals_uncounted(alloc: Global) -> Result<Vec<NamedCount<'static>>, AllocError> {
+    let mut counts = Vec::new(alloc);
+    for reason in &REFUSALS {
+        if counts.push(uncounted(reason.name())).is_err() {
+            return Err(AllocError);
+        }
+    }
+    Ok(counts)
+}
+
+/// Each reason for which a connection is turned away, not counted yet.
+fn away_uncounted(alloc: Global) -> Result<Vec<NamedCount<'static>>, AllocError> {
+    let mut counts = Vec::new(alloc);
+    for reason in &AWAY {
+        if counts.push(uncounted(name_of(*reason))).is_err() {
+            return Err(AllocError);
+        }
+    }
+    Ok(counts)
+}
+
+/// Counts one more by its name, if that is one of those that are counted.
+fn count(counts: &mut [NamedCount<'static>], name: &'static str) {
     for one in counts.iter_mut() {
         if one.name == name.as_bytes() {
             one.count = one.count.saturating_add(1);
-            return;
         }
-    }
-    if counts.len() < REASONS {
-        let _ = counts.push(NamedCount {
-            name: name.as_bytes(),
-            count: 1,
-        });
     }
 }
 
 impl JournalCounts {
-    /// Nothing was counted. Only memory can lack.
+    /// Nothing was counted of any reason. Only memory can lack.
     fn new(alloc: Global) -> Result<JournalCounts, AllocError> {
         Ok(JournalCounts {
-            refusals: Vec::with_capacity(alloc, REASONS)?,
-            away: Vec::with_capacity(alloc, REASONS)?,
+            refusals: refusals_uncounted(alloc)?,
+            away: away_uncounted(alloc)?,
             sent: 0,
             turns: Turns::new(),
             begun: None,

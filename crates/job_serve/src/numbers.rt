@@ -184,11 +184,7 @@ fn kept_at<'a>(
 }
 
 /// The numbers in a file that is open.
-fn kept_in<'a>(
-    rt: &HostRuntime,
-    file: File,
-    path: &'a str,
-) -> Result<Vec<KeptNumber>, Incident<'a>>
+fn kept_in<'a>(rt: &HostRuntime, file: File, path: &'a str) -> Result<Vec<KeptNumber>, Incident<'a>>
     ensures { IfOk result (λ numbers. All IsKeepable numbers.items) }
 {
     let text = match text_in(rt, file) {

@@ -1,7 +1,11 @@
 //! The status port of a server: between its turns it is looked at, and what is asked is answered.
 ghost use Rattle.std.specs.Prelude.{◌≡◌, IfOk, IfSome, is_some};
 ghost use Rattle.std.specs.Option.{unwrap_or};
+ghost use Rattle.protocol.specs.Catalog.{stations_of};
+ghost use Rattle.config_explained.specs.ConfigTexts.{keys_of};
+ghost use Rattle.config_explained.specs.Silences.{silences};
 ghost use Rattle.job_serve.specs.Admitting.{AsksBy, FromList};
+ghost use Rattle.job_serve.specs.Limits.{limit_by, limits_by};
 
 use crate::counts::SharedCounts;
 use crate::listening::unlistened;
@@ -10,12 +14,12 @@ use crate::operator::no_memory;
 use access_list::AccessList;
 use catalog::Config;
 use command_line::{ServeOptions, VERSION};
-use config_explained::{ConfigText, users_of};
+use config_explained::{ConfigText, Silence, silences_of, users_of};
 use event_loop::Loop;
 use incidents::Incident;
 use job_base::{ServerAddress, refused_list, server_of};
 use ports::Ports;
-use server_watch::{Told, Watch};
+use server_watch::{Listed, Told, Watch};
 use sl_time::Tick;
 use status_page::Target;
 use status_ports::{Asked, StatusPorts};
@@ -136,6 +140,8 @@ pub struct StatusDesk<'l> {
     silent_after: u64,
     /// Who may use each station, a text each.
     users: Vec<Vec<u8>>,
+    /// After how many seconds without a record each is silent; without a number never.
+    limits: Vec<Option<u64>>,
     /// When it was looked at last.
     looked: Option<u64>,
 }
@@ -146,6 +152,42 @@ fn users_in(alloc: Global, read: &ConfigText) -> Vec<Vec<u8>> {
         Ok(users) => users,
         Err(_) => Vec::new(alloc),
     }
+}
+
+/// After how many seconds without a record a station is silent, by what the configuration says of it, and by what holds
+/// if that says nothing; never without a number.
+fn limit_by(silence: Silence, server: u64) -> Option<u64>
+    ensures { result ≡ limit_by server silence }
+{
+    match silence {
+        Silence::AsServer => Some(server),
+        Silence::Never => None,
+        Silence::After(seconds) => Some(u64::from(seconds)),
+    }
+}
+
+/// The same of all stations.
+fn limits_by(
+    alloc: Global,
+    silences: &[Silence],
+    server: u64,
+) -> Result<Vec<Option<u64>>, AllocError>
+    ensures { IfOk result (λ limits. limits.items ≡ limits_by server silences.now) }
+{
+    let mut limits = Vec::new(alloc);
+    for silence in silences {
+        limits.push(limit_by(*silence, server))?;
+    }
+    Ok(limits)
+}
+
+/// The same of the stations of a configuration's text.
+fn limits_in(alloc: Global, read: &ConfigText, server: u64) -> Result<Vec<Option<u64>>, AllocError>
+    ensures { IfOk result (λ limits.
+        limits.items ≡ limits_by server (silences (keys_of read.now.text) (stations_of read.now.config))) }
+{
+    let silences = silences_of(alloc, read)?;
+    limits_by(alloc, silences.as_slice(), server)
 }
 
 /// The moment that a clock tells, as a length of time since 1970.
@@ -173,9 +215,14 @@ impl<'l> StatusDesk<'l> {
         counts: &'l SharedCounts,
     ) -> Result<StatusDesk<'l>, AllocError>
         ensures silent { IfOk result (λ desk. desk.silent_after ≡ unwrap_or silent 600) }
+        ensures limits { IfOk result (λ desk. desk.limits.items
+            ≡ limits_by (unwrap_or silent 600) (silences (keys_of served.now.files.read.text)
+            (stations_of served.now.files.read.config))) }
         ensures ports { IfOk result (λ desk. desk.ports ≡ ports) }
     {
         let watch = watch_of(alloc, &served.config)?;
+        let silent_after = silent.unwrap_or(SILENT) as u64;
+        let limits = limits_in(alloc, &served.files.read, silent_after)?;
         let began = match rt.since_1970() {
             Ok(now) => tick_of(now),
             Err(_) => None,
@@ -185,8 +232,9 @@ impl<'l> StatusDesk<'l> {
             watch,
             counts,
             began,
-            silent_after: silent.unwrap_or(SILENT) as u64,
+            silent_after,
             users: users_in(alloc, &served.files.read),
+            limits,
             looked: None,
         })
     }
@@ -196,9 +244,12 @@ impl<'l> StatusDesk<'l> {
         self.counts
     }
 
-    /// A configuration comes into force.
+    /// A configuration comes into force. Without memory for how long its stations may be silent, that stays as it was.
     pub fn take_config(&mut self, alloc: Global, read: &ConfigText) {
         self.users = users_in(alloc, read);
+        if let Ok(limits) = limits_in(alloc, read, self.silent_after) {
+            self.limits = limits;
+        }
         self.ports.forget();
     }
 
@@ -237,8 +288,11 @@ impl<'l> StatusDesk<'l> {
         };
         let is_by_age = matches!(asked.request.target, Target::PageByAge);
         self.watch.gather(now, server);
-        let users = self.users.as_slice();
-        if let Ok(stations) = self.watch.stations(alloc, now, server, users, is_by_age) {
+        let listed = Listed {
+            users: self.users.as_slice(),
+            limits: self.limits.as_slice(),
+        };
+        if let Ok(stations) = self.watch.stations(alloc, now, server, listed, is_by_age) {
             let status = self.watch.status(now, server, told, stations.as_slice());
             self.ports.answer(asked, &status, now);
         }

@@ -11,4 +11,4 @@ outcome_of false = Done
 -- the exit status
 abbrev pub status_by : Outcome → ℕ
 status_by Done = 0
-status_by Silent = 1
+status_by Silent = 3

@@ -1,5 +1,5 @@
 //! What the user is told, and the exit status: 0 if the job was done or help was asked for, 1 at a fault of input or of
-//! a device, and if a server that was asked for its status has a silent station, and 2 if the command line is invalid.
+//! a device, 2 if the command line is invalid, and 3 if a server that was asked for its status has a silent station.
 ghost use Rattle.std.specs.Prelude.{◌≡◌, ◌≢◌, ◌⊎◌, false, true, map, string_bytes, IfOk, OnErr};
 ghost use Rattle.std.specs.Process.{exit_status};
 ghost use Rattle.command_line.specs.Jobs.{IsJob, IsMistake};
@@ -16,6 +16,9 @@ use std::process::ExitCode;
 /// The status of words that the program does not take.
 const REFUSED: u8 = 2;
 
+/// The status of a server with a silent station.
+const SILENT: u8 = 3;
+
 /// Tells a failure, in the line `seedlinkd: N Name` of the standard error. The status is 1.
 pub fn failed(rt: &HostRuntime, failure: Failure) -> ExitCode
     ensures { exit_status result ≡ 1 }
@@ -31,7 +34,7 @@ fn failed_at(rt: &HostRuntime, incident: Incident<'_>, is_verbose: bool) -> Exit
     ExitCode::FAILURE
 }
 
-/// The status of a job: 0 if it was done, 1 if it found a silent station, and 1 at a fault, which is reported, and on
+/// The status of a job: 0 if it was done, 3 if it found a silent station, and 1 at a fault, which is reported, and on
 /// request explained.
 fn status_of(rt: &HostRuntime, outcome: Result<Outcome, Incident<'_>>, is_verbose: bool) -> ExitCode
     ensures done { IfOk outcome.entry (λ o. exit_status result ≡ status_by o) }
@@ -39,7 +42,7 @@ fn status_of(rt: &HostRuntime, outcome: Result<Outcome, Incident<'_>>, is_verbos
 {
     match outcome {
         Ok(Outcome::Done) => ExitCode::SUCCESS,
-        Ok(Outcome::Silent) => ExitCode::FAILURE,
+        Ok(Outcome::Silent) => ExitCode::from(SILENT),
         Err(incident) => failed_at(rt, incident, is_verbose),
     }
 }
@@ -66,10 +69,11 @@ pub fn told(rt: &HostRuntime, text: &str, is_help: bool) -> ExitCode
 }
 
 /// Does the job that the words of a command line ask, of which the first is the program's name. If they are a job, the
-/// status is 0 or 1, as `status_of` has it, or 1 if memory for the words ran out. It is never 0 if they are a mistake.
+/// status is 0, 1 or 3, as `status_of` has it, or 1 if memory for the words ran out. It is never 0 if they are a mistake.
 /// A fault is explained if the words ask for that, or if standard error is a terminal.
 pub fn obey(rt: &HostRuntime, words: &[String]) -> ExitCode
-    ensures job { IsJob (map string_bytes words.now) → (exit_status result ≡ 0) ⊎ (exit_status result ≡ 1) }
+    ensures job { IsJob (map string_bytes words.now) →
+        (exit_status result ≡ 0) ⊎ ((exit_status result ≡ 1) ⊎ (exit_status result ≡ 3)) }
     ensures mistake { IsMistake (map string_bytes words.now) → exit_status result ≢ 0 }
 {
     match read_words(rt.alloc(), words) {

@@ -58,10 +58,10 @@ behind_from sum rings (e ∷ es) = behind_from (min (sum + lag rings e) (2 ^ 64 
 
 -- ---- what is told of a station and of a client
 
--- What is told of the station at a place is its own: its settings, how many records came and when the last one did, and
--- who is listed as one who may use it.
+-- What is told of the station at a place is its own: its settings, how many records came and when the last one did, who
+-- is listed as one who may use it, and after how long it is silent.
 pub record TellsOf (now place : ℕ) (entry : ConfigEntry) (rings : RingsValue) (arrivals : List Arrivals)
-    (listed : List ℕ) (s : StationStatus) : Type 0 where
+    (listed : List ℕ) (limit : Option ℕ) (s : StationStatus) : Type 0 where
   pub network : s.network.now ≡ entry.station.network
   pub code : s.code.now ≡ entry.station.code
   pub description : s.description.now ≡ entry.station.description
@@ -69,10 +69,15 @@ pub record TellsOf (now place : ℕ) (entry : ConfigEntry) (rings : RingsValue) 
   pub records : Some s.records ≡ option_map (λ r. r.pushes) (slice_get rings.rings place)
   pub age : Some s.age ≡ option_map (age_of now) (slice_get arrivals place)
   pub users : s.users.now ≡ listed
+  pub silent_after : s.silent_after ≡ limit
 
 -- who is listed as one who may use the station at a place
 abbrev pub listed_at : List (Vec ℕ Global) → ℕ → List ℕ
 listed_at users place = unwrap_or (option_map (λ u. u.items) (slice_get users place)) []
+
+-- after how long the station at a place is silent; never where nothing is said of it
+abbrev pub limit_at : List (Option ℕ) → ℕ → Option ℕ
+limit_at limits place = unwrap_or (slice_get limits place) None
 
 -- There is a ring, what is known of its records, and a count of followers for each of so many stations.
 abbrev pub Knows : (stations : ℕ) → RingsValue → List Arrivals → (followers : List ℕ) → Type 0
@@ -81,10 +86,11 @@ Knows stations rings arrivals followers =
 
 -- What is told of the stations of a configuration, in its order: of each its own, and nothing else.
 pub record TellOf (now : ℕ) (entries : List ConfigEntry) (rings : RingsValue) (arrivals : List Arrivals)
-    (users : List (Vec ℕ Global)) (told : List StationStatus) : Type 0 where
+    (users : List (Vec ℕ Global)) (limits : List (Option ℕ)) (told : List StationStatus) : Type 0 where
   pub count : length told ≡ length entries
   pub each : (k : ℕ) (e : ConfigEntry) (s : StationStatus) → k < length told
-      → TellsOf now k (slice_index_or entries k e) rings arrivals (listed_at users k) (slice_index_or told k s)
+      → TellsOf now k (slice_index_or entries k e) rings arrivals (listed_at users k) (limit_at limits k)
+      (slice_index_or told k s)
 
 -- how many records are ahead of a client, by what its session is in the middle of: none without a transfer
 abbrev pub ahead_by : State → RingsValue → List Entry → ℕ

@@ -12,4 +12,4 @@ mod watch;
 pub use arrivals::Arrivals;
 pub use behind::behind_of;
 pub use turns::Turns;
-pub use watch::{Told, Watch};
+pub use watch::{Listed, Told, Watch};

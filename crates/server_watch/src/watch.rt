@@ -8,8 +8,8 @@ ghost use Rattle.event_loop.specs.Hearing.{clients_in, feeds_in};
 ghost use Rattle.session_state.specs.Choices.{chosen_of};
 ghost use Rattle.session_state.specs.NamedValues.{entry_of};
 ghost use Rattle.status_page.specs.declared.value.StationStatus.{StationStatus as StationValue};
-ghost use Rattle.server_watch.specs.Watching.{Knows, TellOf, TellsOf, ahead_by, all_noted, listed_at, reaching};
-ghost use Rattle.server_watch.specs.Watching.{with_visitor_of};
+ghost use Rattle.server_watch.specs.Watching.{Knows, TellOf, TellsOf, ahead_by, all_noted, limit_at, listed_at};
+ghost use Rattle.server_watch.specs.Watching.{reaching, with_visitor_of};
 
 use crate::arrivals::{Arrivals, note_all, reach_all};
 use crate::behind::behind_of;
@@ -32,7 +32,7 @@ pub struct Told<'a> {
     pub version: &'a [u8],
     /// When it began, by the system's clock.
     pub began: Option<Tick>,
-    /// After how many seconds without a record a station is silent.
+    /// After how many seconds without a record a station is silent of which the configuration says nothing else.
     pub silent_after: u64,
     /// How many records were refused, by reason.
     pub refusals: &'a [NamedCount<'a>],
@@ -41,6 +41,15 @@ pub struct Told<'a> {
     /// How many bytes clients were sent, and how long turns took.
     pub client_bytes: u64,
     pub turns: TurnTimes<'a>,
+}
+
+/// What else is told of stations, by their places.
+#[derive(Clone, Copy)]
+pub struct Listed<'a> {
+    /// A text for each of who may use it.
+    pub users: &'a [Vec<u8>],
+    /// After how many seconds without a record each is silent; without a number never.
+    pub limits: &'a [Option<u64>],
 }
 
 /// Who follows which station, and what is told of clients.
@@ -164,10 +173,10 @@ impl Watch {
         place: usize,
         station: &'x Station,
         rings: &Rings,
-        users: &'x [Vec<u8>],
+        listed: Listed<'x>,
     ) -> Option<StationStatus<'x>>
         ensures told { IfSome result (TellsOf now place station.now rings.now self.now.arrivals.items
-            (listed_at users.now place)) }
+            (listed_at listed.entry.users.now place) (limit_at listed.entry.limits.now place)) }
         ensures there { place < length rings.now.rings → place < length self.now.arrivals.items →
             place < length self.now.crowd.followers.items → IsSome result }
     {
@@ -178,13 +187,14 @@ impl Watch {
             network: station.network(),
             code: station.code(),
             description: station.description(),
-            users: users_at(users, place),
+            users: users_at(listed.users, place),
             held: held_of(ring),
             capacity: station.capacity() as u64,
             next_number: ring.next_number().digits(),
             records: ring.pushes(),
             last: last_of(ring),
             age: arrivals.age(now),
+            silent_after: limit_at(listed.limits, place),
             minutes: &arrivals.minutes.counts,
             followers: *followers,
         })
@@ -197,15 +207,16 @@ impl Watch {
         now: u64,
         all: &'x [Station],
         rings: &Rings,
-        users: &'x [Vec<u8>],
+        listed: Listed<'x>,
     ) -> Result<Vec<StationStatus<'x>>, AllocError>
         ensures { IfOk result (λ told.
             Knows (length all.now) rings.now self.now.arrivals.items self.now.crowd.followers.items →
-            TellOf now all.now rings.now self.now.arrivals.items users.now told.items) }
+            TellOf now all.now rings.now self.now.arrivals.items listed.entry.users.now listed.entry.limits.now
+            told.items) }
     {
         let mut stations = Vec::with_capacity(alloc, all.len())?;
         for (place, station) in all.iter().enumerate() {
-            if let Some(status) = self.station_at(now, place, station, rings, users) {
+            if let Some(status) = self.station_at(now, place, station, rings, listed) {
                 // There is room for it.
                 if stations.push(status).is_err() {
                     return Err(AllocError);
@@ -215,26 +226,26 @@ impl Watch {
         Ok(stations)
     }
 
-    /// What is told of all stations, in the order of the configuration or by age, with a text for each of who may use
-    /// it. The list is made anew; only memory for it can lack.
+    /// What is told of all stations, in the order of the configuration or by age, with what else is listed of them. The
+    /// list is made anew; only memory for it can lack.
     pub fn stations<'x, P: Ports>(
         &'x self,
         alloc: Global,
         now: u64,
         server: &'x Loop<P>,
-        users: &'x [Vec<u8>],
+        listed: Listed<'x>,
         is_by_age: bool,
     ) -> Result<Vec<StationStatus<'x>>, AllocError>
         ensures told { IfOk result (λ told. (ordered : List StationValue) × (is_by_age ≡ false → told.items ≡ ordered)
             × IsPermutation ordered told.items
             × (Knows (length server.now.server.config.entries) server.now.server.rings self.now.arrivals.items
             self.now.crowd.followers.items → TellOf now server.now.server.config.entries server.now.server.rings
-            self.now.arrivals.items users.now ordered)) }
+            self.now.arrivals.items listed.entry.users.now listed.entry.limits.now ordered)) }
         ensures by_age { IfOk result (λ told. is_by_age ≡ true →
             IsNonDecreasingBy (λ (s : StationValue). 2 ^ 64 - 1 - s.age) told.items) }
     {
         let config = server.server().config();
-        let mut stations = self.stations_of(alloc, now, config.stations(), server.rings(), users)?;
+        let mut stations = self.stations_of(alloc, now, config.stations(), server.rings(), listed)?;
         if is_by_age {
             stations.sort_by_key(|station| u64::MAX - station.age)?;
         }
@@ -305,6 +316,16 @@ fn users_at<'x>(users: &'x [Vec<u8>], place: usize) -> &'x [u8]
     match users.get(place) {
         Some(users) => users.as_slice(),
         None => b"",
+    }
+}
+
+/// After how long the station at a place is silent, by limits for all.
+fn limit_at(limits: &[Option<u64>], place: usize) -> Option<u64>
+    ensures { result ≡ limit_at limits.now place }
+{
+    match limits.get(place) {
+        Some(limit) => *limit,
+        None => None,
     }
 }
 

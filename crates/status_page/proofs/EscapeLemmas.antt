@@ -9,6 +9,7 @@ use Rattle.status_page.specs.declared.template.Piece.{Piece}
 use Rattle.status_page.specs.declared.template.Piece.TheVariants.{Text, Value}
 use Rattle.status_page.specs.declared.template.Section.{Section}
 use Rattle.status_page.specs.declared.template.Section.TheVariants.{Once, Stations, Clients, Refusals, Away, Buckets}
+use Rattle.status_page.specs.declared.template.Section.TheVariants.{AwayAtAll}
 use Rattle.status_page.specs.declared.value.StatusValue.{StatusValue}
 use Rattle.status_page.specs.Escapes.{AreAll, IsEscaped, IsHarmless, IsOneOf, IsPiece, escaped, escaped_byte, escapes}
 use Rattle.status_page.specs.Escapes.{html_byte, joined, label_byte, shown_byte}
@@ -133,11 +134,13 @@ section_is : (l : Language) (v : StatusValue) (section : Section)
 unfolding client_row count_row bucket_row
 section_is l v (Once pieces) = row_is l (server_text v) pieces.now
 section_is l v (Stations rows) =
-    each l (texts_of rows.pieces.now) _ (λ s. chosen_row l _ (is_chosen rows.chosen v.silent_after s) _
-    (row_is l (station_text v.silent_after s) rows.pieces.now)) v.stations.now
+    each l (texts_of rows.pieces.now) _ (λ s. chosen_row l _ (is_chosen rows.chosen s) _
+    (row_is l (station_text s) rows.pieces.now)) v.stations.now
 section_is l v (Clients pieces) = each l _ _ (λ c. row_is l (client_text c) pieces.now) v.clients.now
 section_is l v (Refusals pieces) = each l _ _ (λ n. row_is l (count_text n) pieces.now) v.refusals.now
 section_is l v (Away pieces) = each l _ _ (λ n. row_is l (count_text n) pieces.now) v.away.now
+section_is l v (AwayAtAll pieces) =
+    each l (texts_of pieces.now) _ (λ n. chosen_row l _ (nat_lt 0 n.count) _ (row_is l (count_text n) pieces.now)) v.away.now
 section_is l v (Buckets pieces) = each l _ _ (λ b. row_is l (bucket_text b) pieces.now) v.turns.buckets.now
 
 -- a whole template

@@ -9,7 +9,6 @@ use Rattle.status_page.specs.declared.request.Target.TheVariants.{NotAllowed, Mi
 use Rattle.status_page.specs.declared.value.StatusValue.{StatusValue}
 use Rattle.status_page.specs.Places.{head_values}
 use Rattle.status_page.specs.Templates.{filled, row_text}
-use Rattle.status_page.specs.Values.{any_silent}
 
 -- the code of an answer, with its phrase
 abbrev pub code_of : (is_silent : Bool) → Target → List ℕ
@@ -31,12 +30,6 @@ kind_of PageByAge = codes "text/html; charset=utf-8"
 kind_of Metrics = codes "text/plain; version=0.0.4; charset=utf-8"
 kind_of _ = codes "text/plain; charset=utf-8"
 
--- the stations that are silent, or that none is
-abbrev pub health_text : Templates → StatusValue → List ℕ
-health_text ts v =
-    if any_silent v.silent_after v.stations.now then filled language.Plain v ts.silent.now
-    else filled language.Plain v ts.healthy.now
-
 -- the body of a refusal
 abbrev pub refusal_text : Templates → Target → List ℕ
 refusal_text ts target = row_text language.Plain ts.refusal.now (head_values (code_of false target) (kind_of target) 0)
@@ -46,7 +39,7 @@ abbrev pub body_text : Templates → Target → StatusValue → List ℕ
 body_text ts Page v = filled language.Html v ts.page.now
 body_text ts PageByAge v = filled language.Html v ts.page.now
 body_text ts Metrics v = filled language.Metrics v ts.metrics.now
-body_text ts Health v = health_text ts v
+body_text ts Health v = filled language.Plain v ts.health.now
 body_text ts Plain v = filled language.Plain v ts.plain.now
 body_text ts target v = refusal_text ts target
 

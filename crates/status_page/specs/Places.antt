@@ -1,5 +1,5 @@
 -- What stands at a place of a template, by the row that it is in. A row has nothing at the places of another kind.
-use Rattle.std.specs.Prelude.{ℕ, Bool, if◌then◌else◌, List, [], codes, decimal}
+use Rattle.std.specs.Prelude.{ℕ, Bool, if◌then◌else◌, List, [], Option, Some, None, codes, count_by, decimal}
 use Rattle.status_page.specs.declared.place.Place.{Place}
 use Rattle.status_page.specs.declared.place.Place.TheVariants.{Title, Version, Passed, PassedAge, Since, SilentAfter}
 use Rattle.status_page.specs.declared.place.Place.TheVariants.{OpenClients, OpenFeeds, Records, Refused, SentBytes}
@@ -7,19 +7,25 @@ use Rattle.status_page.specs.declared.place.Place.TheVariants.{TurnSeconds, Turn
 use Rattle.status_page.specs.declared.place.Place.TheVariants.{State, Held, Capacity, NextNumber, Came, Last, Start}
 use Rattle.status_page.specs.declared.place.Place.TheVariants.{Stop, StopSeconds, Silence, SilenceAge, Bars, Followers}
 use Rattle.status_page.specs.declared.place.Place.TheVariants.{Number, Address, Here, Named, Bytes, Ahead, Name}
-use Rattle.status_page.specs.declared.place.Place.TheVariants.{StatusCode, Kind, Length}
+use Rattle.status_page.specs.declared.place.Place.TheVariants.{StatusCode, Kind, Length, HeardCount, WaitingCount}
+use Rattle.status_page.specs.declared.place.Place.TheVariants.{SilentCount, IsSilent, Limit}
 use Rattle.status_page.specs.declared.place.Place.TheVariants as place
 use Rattle.status_page.specs.declared.place.HeadValue.{HeadValue}
 use Rattle.status_page.specs.declared.place.Row.{Row}
 use Rattle.status_page.specs.declared.place.Row.TheVariants as row
 use Rattle.status_page.specs.declared.value.StatusValue.{StatusValue}
+use Rattle.status_page.specs.declared.value.StationState.{StationState}
+use Rattle.status_page.specs.declared.value.StationState.TheVariants.{Heard, Waiting, Silent as SilentState}
 use Rattle.status_page.specs.declared.value.StationStatus.{StationStatus}
 use Rattle.status_page.specs.declared.value.ClientStatus.{ClientStatus}
 use Rattle.status_page.specs.declared.value.NamedCount.{NamedCount}
 use Rattle.status_page.specs.declared.value.TurnBucket.{TurnBucket}
 use Rattle.status_page.specs.Texts.{address_text, age_text, bars_text, last_text, micros_text, since_text, start_text}
 use Rattle.status_page.specs.Texts.{stop_seconds, stop_text}
-use Rattle.status_page.specs.Values.{is_silent}
+use Rattle.status_page.specs.Values.{is_in, is_silent, state_of}
+
+abbrev pub state_count_text : StationState → List StationStatus → List ℕ
+state_count_text state ss = decimal (count_by (λ s. is_in state (state_of s)) ss)
 
 abbrev pub server_text : StatusValue → Place → List ℕ
 server_text v Title = v.title.now
@@ -28,6 +34,9 @@ server_text v Passed = decimal v.passed
 server_text v PassedAge = age_text v.passed
 server_text v Since = since_text v.began
 server_text v SilentAfter = decimal v.silent_after
+server_text v HeardCount = state_count_text Heard v.stations.now
+server_text v WaitingCount = state_count_text Waiting v.stations.now
+server_text v SilentCount = state_count_text SilentState v.stations.now
 server_text v OpenClients = decimal v.open_clients
 server_text v OpenFeeds = decimal v.open_feeds
 server_text v Records = decimal v.records
@@ -37,28 +46,39 @@ server_text v TurnSeconds = micros_text v.turns.micros
 server_text v Turns = decimal v.turns.count
 server_text v _ = []
 
-abbrev pub state_text : (is_silent : Bool) → List ℕ
-state_text is_silent = if is_silent then codes "silent" else codes "ok"
+abbrev pub state_text : StationState → List ℕ
+state_text Heard = codes "ok"
+state_text Waiting = codes "waiting"
+state_text SilentState = codes "silent"
 
-abbrev pub station_text : (silent_after : ℕ) → StationStatus → Place → List ℕ
-station_text silent_after s Network = s.network.now
-station_text silent_after s Code = s.code.now
-station_text silent_after s Description = s.description.now
-station_text silent_after s Users = s.users.now
-station_text silent_after s State = state_text (is_silent silent_after s)
-station_text silent_after s Held = decimal s.held
-station_text silent_after s Capacity = decimal s.capacity
-station_text silent_after s NextNumber = s.next_number
-station_text silent_after s Came = decimal s.records
-station_text silent_after s Last = last_text s.last
-station_text silent_after s Start = start_text s.last
-station_text silent_after s Stop = stop_text s.last
-station_text silent_after s StopSeconds = stop_seconds s.last
-station_text silent_after s Silence = decimal s.age
-station_text silent_after s SilenceAge = age_text s.age
-station_text silent_after s Bars = bars_text s.minutes.now
-station_text silent_after s Followers = decimal s.followers
-station_text silent_after s _ = []
+abbrev pub flag_text : Bool → List ℕ
+flag_text is_so = if is_so then codes "1" else codes "0"
+
+abbrev pub limit_text : Option ℕ → List ℕ
+limit_text None = codes "-"
+limit_text (Some seconds) = decimal seconds
+
+abbrev pub station_text : StationStatus → Place → List ℕ
+station_text s Network = s.network.now
+station_text s Code = s.code.now
+station_text s Description = s.description.now
+station_text s Users = s.users.now
+station_text s State = state_text (state_of s)
+station_text s IsSilent = flag_text (is_silent s)
+station_text s Limit = limit_text s.silent_after
+station_text s Held = decimal s.held
+station_text s Capacity = decimal s.capacity
+station_text s NextNumber = s.next_number
+station_text s Came = decimal s.records
+station_text s Last = last_text s.last
+station_text s Start = start_text s.last
+station_text s Stop = stop_text s.last
+station_text s StopSeconds = stop_seconds s.last
+station_text s Silence = decimal s.age
+station_text s SilenceAge = age_text s.age
+station_text s Bars = bars_text s.minutes.now
+station_text s Followers = decimal s.followers
+station_text s _ = []
 
 abbrev pub client_text : ClientStatus → Place → List ℕ
 client_text c Number = decimal c.number
@@ -91,7 +111,7 @@ head_text h = head_values h.code.now h.kind.now h.length
 -- the values of a row, each at its place
 abbrev pub value_text : Row → Place → List ℕ
 value_text (row.Server v) = server_text v.now
-value_text (row.Station s silent_after) = station_text silent_after s.now
+value_text (row.Station s) = station_text s.now
 value_text (row.Client c) = client_text c.now
 value_text (row.Count n) = count_text n.now
 value_text (row.Bucket b) = bucket_text b.now

@@ -1,5 +1,5 @@
 -- A template that is filled: its own text as it stands, and each value escaped.
-use Rattle.std.specs.Prelude.{ℕ, Bool, true, if◌then◌else◌, List, [], ◌∷◌, ◌++◌, flat_map}
+use Rattle.std.specs.Prelude.{ℕ, Bool, true, nat_lt, if◌then◌else◌, List, [], ◌∷◌, ◌++◌, flat_map}
 use Rattle.std.specs.Option.{is_some}
 use Rattle.status_page.specs.declared.escape.Language.{Language}
 use Rattle.status_page.specs.declared.place.Place.{Place}
@@ -9,7 +9,8 @@ use Rattle.status_page.specs.declared.template.Chosen.{Chosen}
 use Rattle.status_page.specs.declared.template.Chosen.TheVariants.{All, Silent, Holding}
 use Rattle.status_page.specs.declared.template.StationRows.{StationRows}
 use Rattle.status_page.specs.declared.template.Section.{Section}
-use Rattle.status_page.specs.declared.template.Section.TheVariants.{Once, Stations, Clients, Refusals, Away, Buckets}
+use Rattle.status_page.specs.declared.template.Section.TheVariants.{Once, Stations, Clients, Refusals, Away, AwayAtAll}
+use Rattle.status_page.specs.declared.template.Section.TheVariants.{Buckets}
 use Rattle.status_page.specs.declared.value.StatusValue.{StatusValue}
 use Rattle.status_page.specs.declared.value.StationStatus.{StationStatus}
 use Rattle.status_page.specs.declared.value.ClientStatus.{ClientStatus}
@@ -29,18 +30,17 @@ abbrev pub row_text : Language → List Piece → (Place → List ℕ) → List 
 row_text language pieces value = flat_map (piece_text language value) pieces
 
 -- A station has a row.
-abbrev pub is_chosen : Chosen → (silent_after : ℕ) → StationStatus → Bool
-is_chosen All silent_after s = true
-is_chosen Silent silent_after s = is_silent silent_after s
-is_chosen Holding silent_after s = is_some s.last
+abbrev pub is_chosen : Chosen → StationStatus → Bool
+is_chosen All s = true
+is_chosen Silent s = is_silent s
+is_chosen Holding s = is_some s.last
 
-abbrev pub station_row : Language → StationRows → (silent_after : ℕ) → StationStatus → List ℕ
-station_row language rows silent_after s =
-    if is_chosen rows.chosen silent_after s then row_text language rows.pieces.now (station_text silent_after s)
-    else []
+abbrev pub station_row : Language → StationRows → StationStatus → List ℕ
+station_row language rows s =
+    if is_chosen rows.chosen s then row_text language rows.pieces.now (station_text s) else []
 
-abbrev pub station_rows : Language → StationRows → (silent_after : ℕ) → List StationStatus → List ℕ
-station_rows language rows silent_after ss = flat_map (station_row language rows silent_after) ss
+abbrev pub station_rows : Language → StationRows → List StationStatus → List ℕ
+station_rows language rows ss = flat_map (station_row language rows) ss
 
 unfoldable pub client_row : Language → List Piece → ClientStatus → List ℕ
 client_row language pieces c = row_text language pieces (client_text c)
@@ -54,6 +54,13 @@ count_row language pieces n = row_text language pieces (count_text n)
 abbrev pub count_rows : Language → List Piece → List NamedCount → List ℕ
 count_rows language pieces ns = flat_map (count_row language pieces) ns
 
+-- a count has a row if it is not 0
+abbrev pub counted_row : Language → List Piece → NamedCount → List ℕ
+counted_row language pieces n = if nat_lt 0 n.count then count_row language pieces n else []
+
+abbrev pub counted_rows : Language → List Piece → List NamedCount → List ℕ
+counted_rows language pieces ns = flat_map (counted_row language pieces) ns
+
 unfoldable pub bucket_row : Language → List Piece → TurnBucket → List ℕ
 bucket_row language pieces b = row_text language pieces (bucket_text b)
 
@@ -63,10 +70,11 @@ bucket_rows language pieces bs = flat_map (bucket_row language pieces) bs
 -- a section: once for the server, or a row for each of a list
 abbrev pub section_text : Language → StatusValue → Section → List ℕ
 section_text language v (Once pieces) = row_text language pieces.now (server_text v)
-section_text language v (Stations rows) = station_rows language rows v.silent_after v.stations.now
+section_text language v (Stations rows) = station_rows language rows v.stations.now
 section_text language v (Clients pieces) = client_rows language pieces.now v.clients.now
 section_text language v (Refusals pieces) = count_rows language pieces.now v.refusals.now
 section_text language v (Away pieces) = count_rows language pieces.now v.away.now
+section_text language v (AwayAtAll pieces) = counted_rows language pieces.now v.away.now
 section_text language v (Buckets pieces) = bucket_rows language pieces.now v.turns.buckets.now
 
 -- a template, filled
@@ -88,6 +96,7 @@ section_texts (Stations rows) = texts_of rows.pieces.now
 section_texts (Clients pieces) = texts_of pieces.now
 section_texts (Refusals pieces) = texts_of pieces.now
 section_texts (Away pieces) = texts_of pieces.now
+section_texts (AwayAtAll pieces) = texts_of pieces.now
 section_texts (Buckets pieces) = texts_of pieces.now
 
 -- the texts of a template itself

@@ -1,15 +1,32 @@
--- What is told of a server: which stations are silent, and which minute was the busiest.
-use Rattle.std.specs.Prelude.{ℕ, Bool, nat_le, max, List, [], ◌∷◌}
+-- What is told of a server: how each station stands, and which minute was the busiest.
+use Rattle.std.specs.Prelude.{ℕ, Bool, true, false, nat_le, nat_lt, max, if◌then◌else◌, List, [], ◌∷◌, Option, Some, None}
 use Rattle.std.specs.List.{list_any}
+use Rattle.status_page.specs.declared.value.StationState.{StationState}
+use Rattle.status_page.specs.declared.value.StationState.TheVariants.{Heard, Waiting, Silent}
 use Rattle.status_page.specs.declared.value.StationStatus.{StationStatus}
 
--- Nothing came for so many seconds.
-abbrev pub is_silent : (silent_after : ℕ) → StationStatus → Bool
-is_silent silent_after s = nat_le silent_after s.age
+-- Nothing came for as many seconds as a station may have no record, if there is such a number.
+abbrev pub is_over : Option ℕ → (age : ℕ) → Bool
+is_over None age = false
+is_over (Some seconds) age = nat_le seconds age
+
+abbrev pub is_silent : StationStatus → Bool
+is_silent s = is_over s.silent_after s.age
 
 -- That is so of some station.
-abbrev pub any_silent : (silent_after : ℕ) → List StationStatus → Bool
-any_silent silent_after ss = list_any (is_silent silent_after) ss
+abbrev pub any_silent : List StationStatus → Bool
+any_silent ss = list_any is_silent ss
+
+-- how a station stands: one of which nothing came yet waits until it is silent
+abbrev pub state_of : StationStatus → StationState
+state_of s = if is_silent s then Silent else if nat_lt 0 s.records then Heard else Waiting
+
+-- It is that state.
+abbrev pub is_in : StationState → StationState → Bool
+is_in Heard Heard = true
+is_in Waiting Waiting = true
+is_in Silent Silent = true
+is_in _ _ = false
 
 -- the greatest of some numbers and one more
 abbrev pub busiest_from : ℕ → List ℕ → ℕ

@@ -1,17 +1,17 @@
 //! Answers: a head and a body.
 ghost use Rattle.std.specs.Prelude.{◌≡◌, ◌++◌, OnOk};
-ghost use Rattle.status_page.specs.Answers.{answer_text, body_text, code_of, head_of, health_text, kind_of};
+ghost use Rattle.status_page.specs.Answers.{answer_text, body_text, code_of, head_of, kind_of};
 ghost use Rattle.status_page.specs.Answers.{refusal_text};
 
 use crate::escape::Language;
 use crate::metrics::METRICS;
 use crate::page::PAGE;
 use crate::place::{HeadValue, Place, Row};
-use crate::plain::{HEALTHY, PLAIN, SILENT};
+use crate::plain::{HEALTH, PLAIN};
 use crate::request::{StatusRequest, Target};
 use crate::template::Piece::{self, Text, Value};
 use crate::template::{Section, put_row, put_template};
-use crate::value::{StatusValue, is_any_silent};
+use crate::value::StatusValue;
 use std::alloc::AllocError;
 
 /// All templates of answers.
@@ -20,8 +20,7 @@ pub struct Templates {
     pub page: &'static [Section],
     pub metrics: &'static [Section],
     pub plain: &'static [Section],
-    pub silent: &'static [Section],
-    pub healthy: &'static [Section],
+    pub health: &'static [Section],
     /// The head of each answer.
     pub head: &'static [Piece],
     /// The body of a refusal.
@@ -54,11 +53,15 @@ pub static TEMPLATES: Templates = Templates {
     page: PAGE,
     metrics: METRICS,
     plain: PLAIN,
-    silent: SILENT,
-    healthy: HEALTHY,
+    health: HEALTH,
     head: HEAD,
     refusal: REFUSAL,
 };
+
+/// All templates of answers, for whoever need not know what they say.
+pub fn all_templates() -> &'static Templates {
+    &TEMPLATES
+}
 
 /// The code of an answer, with its phrase. What a watchdog asks for is unavailable if a station is silent.
 fn code_of(target: Target, is_silent: bool) -> &'static [u8]
@@ -87,22 +90,6 @@ fn kind_of(target: Target) -> &'static [u8]
         Target::Page | Target::PageByAge => b"text/html; charset=utf-8",
         Target::Metrics => b"text/plain; version=0.0.4; charset=utf-8",
         _ => b"text/plain; charset=utf-8",
-    }
-}
-
-/// The stations that are silent, or that none is.
-fn put_health(
-    text: &mut Vec<u8>,
-    value: &mut Vec<u8>,
-    templates: &Templates,
-    status: &StatusValue<'_>,
-) -> Result<(), AllocError>
-    ensures { OnOk result (text.new.items ≡ text.old.items ++ health_text templates.now status.now) }
-{
-    if is_any_silent(status.stations, status.silent_after) {
-        put_template(text, value, Language::Plain, status, templates.silent)
-    } else {
-        put_template(text, value, Language::Plain, status, templates.healthy)
     }
 }
 
@@ -144,7 +131,7 @@ fn put_body(
             put_template(text, value, Language::Html, status, templates.page)
         }
         Target::Metrics => put_template(text, value, Language::Metrics, status, templates.metrics),
-        Target::Health => put_health(text, value, templates, status),
+        Target::Health => put_template(text, value, Language::Plain, status, templates.health),
         Target::Plain => put_template(text, value, Language::Plain, status, templates.plain),
         _ => put_refusal(text, value, templates, target),
     }

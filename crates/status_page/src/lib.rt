@@ -15,9 +15,9 @@ mod template;
 mod texts;
 mod value;
 
-pub use answers::{TEMPLATES, Templates, write_answer, write_body, write_refusal};
+pub use answers::{Templates, all_templates, write_answer, write_body, write_refusal};
 pub use request::{StatusRequest, Target, request_in};
 pub use value::{
-    ClientStatus, LastRecord, NamedCount, StationStatus, StatusValue, TurnBucket, TurnTimes,
-    is_any_silent,
+    ClientStatus, LastRecord, NamedCount, StationState, StationStatus, StatusValue, TurnBucket,
+    TurnTimes, is_any_silent,
 };

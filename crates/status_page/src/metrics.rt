@@ -63,6 +63,30 @@ const AWAY: &[Piece] = &[
     Text(b"\n"),
 ];
 
+/// How many stations stand how, and the head of the counts of records.
+const STATES: &[Piece] = &[
+    Text(b"# HELP seedlinkd_stations Stations, by how they stand.\n"),
+    Text(b"# TYPE seedlinkd_stations gauge\nseedlinkd_stations{state=\"ok\"} "),
+    Value(Place::HeardCount),
+    Text(b"\nseedlinkd_stations{state=\"waiting\"} "),
+    Value(Place::WaitingCount),
+    Text(b"\nseedlinkd_stations{state=\"silent\"} "),
+    Value(Place::SilentCount),
+    Text(b"\n# HELP seedlinkd_station_silent Whether a station is silent.\n"),
+    Text(b"# TYPE seedlinkd_station_silent gauge\n"),
+];
+
+/// Whether a station is silent.
+const SILENT: &[Piece] = &[
+    Text(b"seedlinkd_station_silent{network=\""),
+    Value(Place::Network),
+    Text(b"\",station=\""),
+    Value(Place::Code),
+    Text(b"\"} "),
+    Value(Place::IsSilent),
+    Text(b"\n"),
+];
+
 /// How many records came of a station.
 const RECORDS: &[Piece] = &[
     Text(b"seedlinkd_station_records_total{network=\""),
@@ -118,6 +142,11 @@ pub const METRICS: &[Section] = &[
         Text(b"# TYPE seedlinkd_turned_away_total counter\n"),
     ]),
     Section::Away(AWAY),
+    Section::Once(STATES),
+    Section::Stations(StationRows {
+        chosen: Chosen::All,
+        pieces: SILENT,
+    }),
     Section::Once(&[
         Text(b"# HELP seedlinkd_station_records_total Records of a station that were taken.\n"),
         Text(b"# TYPE seedlinkd_station_records_total counter\n"),

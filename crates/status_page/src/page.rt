@@ -50,6 +50,13 @@ const TOP: &[Piece] = &[
     Text(b"</b> refused</li><li><b>"),
     Value(Place::SentBytes),
     Text(b"</b> bytes sent</li>"),
+    Text(b"<li><b>"),
+    Value(Place::HeardCount),
+    Text(b"</b> stations ok</li><li><b>"),
+    Value(Place::WaitingCount),
+    Text(b"</b> waiting</li><li><b>"),
+    Value(Place::SilentCount),
+    Text(b"</b> silent</li>"),
 ];
 
 /// How many connections were turned away for a reason.
@@ -63,9 +70,10 @@ const AWAY: &[Piece] = &[
 
 /// The head of the table of stations.
 const STATIONS: &[Piece] = &[
-    Text(b"</ul>\n<h2>Stations</h2><p>Red: nothing came for "),
+    Text(b"</ul>\n<h2>Stations</h2><p>Red: silent, since nothing came for "),
     Value(Place::SilentAfter),
-    Text(b" s. In the order of the <a href='./'>configuration</a>"),
+    Text(b" s, or for the time that the configuration has for the station. In the order of the "),
+    Text(b"<a href='./'>configuration</a>"),
     Text(b", or the <a href='?sort=age'>longest silent</a> first.</p>\n<div class='wide'>"),
     Text(
         b"<table><tr><th>Station</th><th class='n'>Last came</th><th>Last hour</th><th class='minor'>\
@@ -134,7 +142,7 @@ const CLIENT: &[Piece] = &[
 /// The page.
 pub const PAGE: &[Section] = &[
     Section::Once(TOP),
-    Section::Away(AWAY),
+    Section::AwayAtAll(AWAY),
     Section::Once(STATIONS),
     Section::Stations(StationRows {
         chosen: Chosen::All,

@@ -1,13 +1,15 @@
 //! What stands at a place of a template.
 ghost use Rattle.std.specs.Prelude.{◌≡◌, ◌++◌, OnOk, decimal};
-ghost use Rattle.status_page.specs.Places.{bucket_text, client_text, count_text, head_text, server_text, state_text};
-ghost use Rattle.status_page.specs.Places.{station_text, value_text};
+ghost use Rattle.status_page.specs.Places.{bucket_text, client_text, count_text, head_text, server_text, state_count_text, state_text};
+ghost use Rattle.status_page.specs.Places.{flag_text, limit_text, station_text, value_text};
 
 use crate::texts::{
     put_address, put_age, put_bars, put_last, put_micros, put_number, put_since, put_start,
     put_stop, put_stop_seconds,
 };
-use crate::value::{ClientStatus, NamedCount, StationStatus, StatusValue, TurnBucket};
+use crate::value::{
+    ClientStatus, NamedCount, StationState, StationStatus, StatusValue, TurnBucket, count_in,
+};
 use std::alloc::AllocError;
 
 /// A place of a template. Each is a value of one kind of row, and empty in another.
@@ -20,8 +22,12 @@ pub enum Place {
     Passed,
     PassedAge,
     Since,
-    /// After how many seconds without a record a station is silent.
+    /// After how many seconds without a record a station is silent of which the configuration says nothing else.
     SilentAfter,
+    /// How many stations are heard, wait and are silent.
+    HeardCount,
+    WaitingCount,
+    SilentCount,
     /// How many clients and feeds are connected, records taken and refused, and bytes sent.
     OpenClients,
     OpenFeeds,
@@ -36,8 +42,11 @@ pub enum Place {
     Code,
     Description,
     Users,
-    /// `silent` or `ok`.
+    /// `ok`, `waiting` or `silent`; and 1 if it is silent, else 0.
     State,
+    IsSilent,
+    /// After how many seconds without a record it is silent; `-` if never.
+    Limit,
     /// How many of its records are held, how many are at most, the next number, and how many came.
     Held,
     Capacity,
@@ -83,12 +92,22 @@ pub struct HeadValue<'a> {
 #[derive(Clone, Copy)]
 pub enum Row<'a> {
     Server(&'a StatusValue<'a>),
-    /// A station, and after how many seconds without a record it is silent.
-    Station(&'a StationStatus<'a>, u64),
+    Station(&'a StationStatus<'a>),
     Client(&'a ClientStatus),
     Count(&'a NamedCount<'a>),
     Bucket(&'a TurnBucket<'a>),
     Head(&'a HeadValue<'a>),
+}
+
+/// How many stations stand so.
+fn put_count_in(
+    text: &mut Vec<u8>,
+    stations: &[StationStatus<'_>],
+    state: StationState,
+) -> Result<(), AllocError>
+    ensures { OnOk result (text.new.items ≡ text.old.items ++ state_count_text state stations.now) }
+{
+    put_number(text, count_in(stations, state))
 }
 
 /// A value of a server.
@@ -102,6 +121,9 @@ fn put_server(text: &mut Vec<u8>, status: &StatusValue<'_>, place: Place) -> Res
         Place::PassedAge => put_age(text, status.passed),
         Place::Since => put_since(text, status.began),
         Place::SilentAfter => put_number(text, status.silent_after),
+        Place::HeardCount => put_count_in(text, status.stations, StationState::Heard),
+        Place::WaitingCount => put_count_in(text, status.stations, StationState::Waiting),
+        Place::SilentCount => put_count_in(text, status.stations, StationState::Silent),
         Place::OpenClients => put_number(text, status.open_clients),
         Place::OpenFeeds => put_number(text, status.open_feeds),
         Place::Records => put_number(text, status.records),
@@ -113,28 +135,50 @@ fn put_server(text: &mut Vec<u8>, status: &StatusValue<'_>, place: Place) -> Res
     }
 }
 
-/// Whether a station is silent.
-fn state_of(is_silent: bool) -> &'static [u8]
-    ensures { result.now ≡ state_text is_silent }
+/// The word for how a station stands.
+fn word_of(state: StationState) -> &'static [u8]
+    ensures { result.now ≡ state_text state }
 {
-    if is_silent { b"silent" } else { b"ok" }
+    match state {
+        StationState::Heard => b"ok",
+        StationState::Waiting => b"waiting",
+        StationState::Silent => b"silent",
+    }
+}
+
+/// The digit for whether something is so.
+fn flag_of(is_so: bool) -> &'static [u8]
+    ensures { result.now ≡ flag_text is_so }
+{
+    if is_so { b"1" } else { b"0" }
+}
+
+/// A number of seconds, or what stands there without one.
+fn put_limit(text: &mut Vec<u8>, limit: Option<u64>) -> Result<(), AllocError>
+    ensures { OnOk result (text.new.items ≡ text.old.items ++ limit_text limit) }
+{
+    match limit {
+        Some(seconds) => put_number(text, seconds),
+        None => text.extend_from_slice(b"-"),
+    }
 }
 
 /// A value of a station.
 fn put_station(
     text: &mut Vec<u8>,
     station: &StationStatus<'_>,
-    silent_after: u64,
     place: Place,
 ) -> Result<(), AllocError>
-    ensures { OnOk result (text.new.items ≡ text.old.items ++ station_text silent_after station.now place) }
+    ensures { OnOk result (text.new.items ≡ text.old.items ++ station_text station.now place) }
 {
     match place {
         Place::Network => text.extend_from_slice(station.network),
         Place::Code => text.extend_from_slice(station.code),
         Place::Description => text.extend_from_slice(station.description),
         Place::Users => text.extend_from_slice(station.users),
-        Place::State => text.extend_from_slice(state_of(station.is_silent(silent_after))),
+        Place::State => text.extend_from_slice(word_of(station.state())),
+        Place::IsSilent => text.extend_from_slice(flag_of(station.is_silent())),
+        Place::Limit => put_limit(text, station.silent_after),
         Place::Held => put_number(text, station.held),
         Place::Capacity => put_number(text, station.capacity),
         Place::NextNumber => text.extend_from_slice(&station.next_number),
@@ -206,7 +250,7 @@ pub fn put_value(text: &mut Vec<u8>, row: &Row<'_>, place: Place) -> Result<(), 
 {
     match row {
         Row::Server(status) => put_server(text, status, place),
-        Row::Station(station, silent_after) => put_station(text, station, *silent_after, place),
+        Row::Station(station) => put_station(text, station, place),
         Row::Client(client) => put_client(text, client, place),
         Row::Count(one) => put_count(text, one, place),
         Row::Bucket(bucket) => put_bucket(text, bucket, place),

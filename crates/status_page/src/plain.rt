@@ -20,7 +20,15 @@ const TOTALS: &[Piece] = &[
     Value(Place::Refused),
     Text(b", bytes sent "),
     Value(Place::SentBytes),
-    Text(b"\n\nNET\tSTATION\tSTATE\tAGE s\tHELD\tOF\tNEXT\tFOLLOW\tLAST RECORD\tOPEN TO\n"),
+    Text(b"\nstations ok "),
+    Value(Place::HeardCount),
+    Text(b", waiting "),
+    Value(Place::WaitingCount),
+    Text(b", silent "),
+    Value(Place::SilentCount),
+    Text(
+        b"\n\nNET\tSTATION\tSTATE\tAGE s\tLIMIT s\tHELD\tOF\tNEXT\tFOLLOW\tLAST RECORD\tOPEN TO\n",
+    ),
 ];
 
 /// The line of a station.
@@ -32,6 +40,8 @@ const STATION: &[Piece] = &[
     Value(Place::State),
     Text(b"\t"),
     Value(Place::Silence),
+    Text(b"\t"),
+    Value(Place::Limit),
     Text(b"\t"),
     Value(Place::Held),
     Text(b"\t"),
@@ -85,11 +95,19 @@ const SILENT_STATION: &[Piece] = &[
     Text(b" s\n"),
 ];
 
-/// The stations that are silent.
-pub const SILENT: &[Section] = &[Section::Stations(StationRows {
-    chosen: Chosen::Silent,
-    pieces: SILENT_STATION,
-})];
-
-/// That no station is silent.
-pub const HEALTHY: &[Section] = &[Section::Once(&[Text(b"ok\n")])];
+/// How many stations are ok, waiting and silent, and which are silent.
+pub const HEALTH: &[Section] = &[
+    Section::Once(&[
+        Text(b"ok "),
+        Value(Place::HeardCount),
+        Text(b", waiting "),
+        Value(Place::WaitingCount),
+        Text(b", silent "),
+        Value(Place::SilentCount),
+        Text(b"\n"),
+    ]),
+    Section::Stations(StationRows {
+        chosen: Chosen::Silent,
+        pieces: SILENT_STATION,
+    }),
+];

@@ -1,5 +1,5 @@
 //! What is asked of the status port: the head of a request, and what it is for.
-ghost use Rattle.std.specs.Prelude.{◌≡◌, ◌≤◌, ℕ, List, None, Some, length};
+ghost use Rattle.std.specs.Prelude.{◌≡◌, ◌≤◌, ℕ, List, None, Some, IsSome, length, true};
 ghost use Rattle.httparse.specs.Spans.{IsRequestAt, IsRequestWithin};
 ghost use Rattle.httparse.specs.Grammar.{HasNoRequest, ReadsRequest, RequestHead};
 ghost use Rattle.status_page.specs.Requests.{MAX_FIELDS, asked_by, request_of, target_of};
@@ -113,6 +113,7 @@ pub fn request_in(bytes: &[u8], is_full: bool, name: &[u8]) -> Option<StatusRequ
     ensures asked { (head : RequestHead) (rest : List ℕ) → ReadsRequest bytes.now head rest →
         length head.fields ≤ MAX_FIELDS → result ≡ Some (asked_by name.now head) }
     ensures unfinished { result ≡ None → HasNoRequest bytes.now }
+    ensures full { is_full ≡ true → IsSome result }
 {
     let mut fields = [EMPTY_HEADER_SPAN; FIELDS];
     match parse_request(bytes, &mut fields) {

@@ -2,7 +2,7 @@
 ghost use Rattle.std.specs.Prelude.{◌≡◌, ◌++◌, OnOk};
 ghost use Rattle.status_page.specs.Places.{value_text};
 ghost use Rattle.status_page.specs.Templates.{bucket_row, bucket_rows, client_row, client_rows, count_row};
-ghost use Rattle.status_page.specs.Templates.{count_rows, filled, is_chosen, piece_text};
+ghost use Rattle.status_page.specs.Templates.{count_rows, counted_row, counted_rows, filled, is_chosen, piece_text};
 ghost use Rattle.status_page.specs.Templates.{row_text, section_text, station_row, station_rows};
 
 use crate::escape::{Language, put_escaped};
@@ -42,10 +42,12 @@ pub enum Section {
     Once(&'static [Piece]),
     Stations(StationRows),
     Clients(&'static [Piece]),
-    /// For each reason for which records were refused.
+    /// For each reason for which records are refused.
     Refusals(&'static [Piece]),
-    /// For each reason for which connections were turned away.
+    /// For each reason for which connections are turned away.
     Away(&'static [Piece]),
+    /// For each of these for which some were.
+    AwayAtAll(&'static [Piece]),
     /// For each bound of turns.
     Buckets(&'static [Piece]),
 }
@@ -87,12 +89,12 @@ pub fn put_row(
 }
 
 /// Whether a station has a row.
-fn is_chosen(chosen: Chosen, station: &StationStatus<'_>, silent_after: u64) -> bool
-    ensures { result ≡ is_chosen chosen silent_after station.now }
+fn is_chosen(chosen: Chosen, station: &StationStatus<'_>) -> bool
+    ensures { result ≡ is_chosen chosen station.now }
 {
     match chosen {
         Chosen::All => true,
-        Chosen::Silent => station.is_silent(silent_after),
+        Chosen::Silent => station.is_silent(),
         Chosen::Holding => station.last.is_some(),
     }
 }
@@ -104,19 +106,12 @@ fn put_station(
     language: Language,
     rows: &StationRows,
     station: &StationStatus<'_>,
-    silent_after: u64,
 ) -> Result<(), AllocError>
     ensures { OnOk result
-        (text.new.items ≡ text.old.items ++ station_row language rows.now silent_after station.now) }
+        (text.new.items ≡ text.old.items ++ station_row language rows.now station.now) }
 {
-    if is_chosen(rows.chosen, station, silent_after) {
-        put_row(
-            text,
-            value,
-            language,
-            &Row::Station(station, silent_after),
-            rows.pieces,
-        )
+    if is_chosen(rows.chosen, station) {
+        put_row(text, value, language, &Row::Station(station), rows.pieces)
     } else {
         Ok(())
     }
@@ -129,13 +124,12 @@ fn put_stations(
     language: Language,
     rows: &StationRows,
     stations: &[StationStatus<'_>],
-    silent_after: u64,
 ) -> Result<(), AllocError>
     ensures { OnOk result
-        (text.new.items ≡ text.old.items ++ station_rows language rows.now silent_after stations.now) }
+        (text.new.items ≡ text.old.items ++ station_rows language rows.now stations.now) }
 {
     for station in stations {
-        put_station(text, value, language, rows, station, silent_after)?;
+        put_station(text, value, language, rows, station)?;
     }
     Ok(())
 }
@@ -200,6 +194,39 @@ fn put_counts(
     Ok(())
 }
 
+/// The row of a count that is not 0.
+fn put_count_at_all(
+    text: &mut Vec<u8>,
+    value: &mut Vec<u8>,
+    language: Language,
+    pieces: &[Piece],
+    one: &NamedCount<'_>,
+) -> Result<(), AllocError>
+    ensures { OnOk result (text.new.items ≡ text.old.items ++ counted_row language pieces.now one.now) }
+{
+    if one.count > 0 {
+        put_count(text, value, language, pieces, one)
+    } else {
+        Ok(())
+    }
+}
+
+/// The rows of counts that are not 0.
+fn put_counted(
+    text: &mut Vec<u8>,
+    value: &mut Vec<u8>,
+    language: Language,
+    pieces: &[Piece],
+    counts: &[NamedCount<'_>],
+) -> Result<(), AllocError>
+    ensures { OnOk result (text.new.items ≡ text.old.items ++ counted_rows language pieces.now counts.now) }
+{
+    for one in counts {
+        put_count_at_all(text, value, language, pieces, one)?;
+    }
+    Ok(())
+}
+
 /// The row of a count of turns.
 #[tactic(auto, unfolding(crate::specs::Templates::bucket_row))]
 fn put_bucket(
@@ -242,19 +269,11 @@ fn put_section(
 {
     match section {
         Section::Once(pieces) => put_row(text, value, language, &Row::Server(status), pieces),
-        Section::Stations(rows) => {
-            put_stations(
-                text,
-                value,
-                language,
-                rows,
-                status.stations,
-                status.silent_after,
-            )
-        }
+        Section::Stations(rows) => put_stations(text, value, language, rows, status.stations),
         Section::Clients(pieces) => put_clients(text, value, language, pieces, status.clients),
         Section::Refusals(pieces) => put_counts(text, value, language, pieces, status.refusals),
         Section::Away(pieces) => put_counts(text, value, language, pieces, status.away),
+        Section::AwayAtAll(pieces) => put_counted(text, value, language, pieces, status.away),
         Section::Buckets(pieces) => {
             put_buckets(text, value, language, pieces, status.turns.buckets)
         }

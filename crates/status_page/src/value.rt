@@ -1,6 +1,6 @@
 //! What is told of a server.
-ghost use Rattle.std.specs.Prelude.{◌≡◌};
-ghost use Rattle.status_page.specs.Values.{any_silent, is_silent};
+ghost use Rattle.std.specs.Prelude.{◌≡◌, count_by};
+ghost use Rattle.status_page.specs.Values.{any_silent, is_in, is_silent, state_of};
 
 use sl_time::Tick;
 
@@ -18,6 +18,17 @@ pub struct LastRecord {
     pub start: Tick,
     /// The moment at which its samples are over.
     pub stop: Tick,
+}
+
+/// How a station stands.
+#[derive(Clone, Copy, Drop)]
+pub enum StationState {
+    /// Records came, and the last one not too long ago.
+    Heard,
+    /// None came since the server began, and that is not too long ago.
+    Waiting,
+    /// Nothing came for too long.
+    Silent,
 }
 
 /// What is told of a station.
@@ -39,6 +50,8 @@ pub struct StationStatus<'a> {
     pub last: Option<LastRecord>,
     /// How many seconds ago it came, or the server began if none came.
     pub age: u64,
+    /// After how many seconds without a record it is silent; without a number never.
+    pub silent_after: Option<u64>,
     /// How many records came in each of the last 60 minutes, the oldest first.
     pub minutes: &'a [u32],
     /// How many clients named it.
@@ -46,11 +59,39 @@ pub struct StationStatus<'a> {
 }
 
 impl<'a> StationStatus<'a> {
-    /// Whether nothing came for so many seconds.
-    pub fn is_silent(&self, silent_after: u64) -> bool
-        ensures { result ≡ is_silent silent_after self.now }
+    /// Whether nothing came for too long.
+    pub fn is_silent(&self) -> bool
+        ensures { result ≡ is_silent self.now }
     {
-        silent_after <= self.age
+        match self.silent_after {
+            Some(seconds) => seconds <= self.age,
+            None => false,
+        }
+    }
+
+    /// How it stands.
+    pub fn state(&self) -> StationState
+        ensures { result ≡ state_of self.now }
+    {
+        if self.is_silent() {
+            StationState::Silent
+        } else if self.records > 0 {
+            StationState::Heard
+        } else {
+            StationState::Waiting
+        }
+    }
+
+    /// Whether it stands so.
+    fn is_in(&self, state: StationState) -> bool
+        ensures { result ≡ is_in state (state_of self.now) }
+    {
+        match (state, self.state()) {
+            (StationState::Heard, StationState::Heard) => true,
+            (StationState::Waiting, StationState::Waiting) => true,
+            (StationState::Silent, StationState::Silent) => true,
+            _ => false,
+        }
     }
 }
 
@@ -102,7 +143,7 @@ pub struct StatusValue<'a> {
     pub began: Option<Tick>,
     /// How many seconds ago that was.
     pub passed: u64,
-    /// After how many seconds without a record a station is silent.
+    /// After how many seconds without a record a station is silent of which the configuration says nothing else.
     pub silent_after: u64,
     /// How many clients and feeds are connected.
     pub open_clients: u64,
@@ -122,13 +163,26 @@ pub struct StatusValue<'a> {
 }
 
 /// Whether some station is silent.
-pub fn is_any_silent(stations: &[StationStatus<'_>], silent_after: u64) -> bool
-    ensures { result ≡ any_silent silent_after stations.now }
+pub fn is_any_silent(stations: &[StationStatus<'_>]) -> bool
+    ensures { result ≡ any_silent stations.now }
 {
     for station in stations {
-        if station.is_silent(silent_after) {
+        if station.is_silent() {
             return true;
         }
     }
     false
+}
+
+/// How many stations stand so.
+pub fn count_in(stations: &[StationStatus<'_>], state: StationState) -> u64
+    ensures { result ≡ count_by (λ s. is_in state (state_of s)) stations.now }
+{
+    let mut count = 0u64;
+    for station in stations {
+        if station.is_in(state) {
+            count += 1;
+        }
+    }
+    count
 }

@@ -1,6 +1,6 @@
 //! The texts of answers, each made at most once a second, whoever asks.
-ghost use Rattle.std.specs.Prelude.{◌≡◌, OnOk, option_map};
-ghost use Rattle.status_ports.specs.KeptTexts.{IsFoundFor, is_fresh, kept_at, text_made, with_made};
+ghost use Rattle.std.specs.Prelude.{◌≡◌, IfOk, OnOk, option_map, replicate};
+ghost use Rattle.status_ports.specs.KeptTexts.{IsFoundFor, is_fresh, kept_at, place_of, text_made, with_made};
 ghost use Rattle.status_ports.specs.KeptValues.{no_text};
 
 use status_page::{StatusValue, Target, Templates, is_any_silent, write_body};
@@ -51,7 +51,7 @@ impl KeptText {
         ensures { OnOk result (self.new ≡ text_made templates.now target status.now now) }
     {
         self.made = None;
-        self.is_silent = is_any_silent(status.stations, status.silent_after);
+        self.is_silent = is_any_silent(status.stations);
         write_body(&mut self.body, value, templates, target, status)?;
         self.made = Some(now);
         Ok(())
@@ -99,40 +99,55 @@ pub enum Found<'k> {
     Refusal,
 }
 
+/// How many answers tell of a server.
+const ANSWERS: usize = 5;
+
+/// Where the text for a target stands. A refusal has none.
+fn place_of(target: Target) -> Option<usize>
+    ensures { result ≡ place_of target }
+{
+    match target {
+        Target::Page => Some(0),
+        Target::PageByAge => Some(1),
+        Target::Metrics => Some(2),
+        Target::Health => Some(3),
+        Target::Plain => Some(4),
+        _ => None,
+    }
+}
+
 /// The text of each answer that tells of a server.
 #[derive(Drop)]
 pub struct KeptTexts {
-    page: KeptText,
-    by_age: KeptText,
-    metrics: KeptText,
-    health: KeptText,
-    plain: KeptText,
+    texts: Vec<KeptText>,
+}
+
+impl Model for KeptTexts {
+    ghost use Rattle.std.specs.Prelude.{List};
+    ghost use Rattle.status_ports.specs.KeptValues.{KeptValue};
+
+    ghost Value = { List KeptValue };
+
+    ghost view = { λ k. k.texts.items };
 }
 
 impl KeptTexts {
-    /// None was made.
-    pub fn new(alloc: Global) -> KeptTexts {
-        KeptTexts {
-            page: KeptText::new(alloc),
-            by_age: KeptText::new(alloc),
-            metrics: KeptText::new(alloc),
-            health: KeptText::new(alloc),
-            plain: KeptText::new(alloc),
+    /// None was made. Only memory can lack.
+    pub fn new(alloc: Global) -> Result<KeptTexts, AllocError>
+        ensures { IfOk result (λ kept. kept ≡ replicate 5 no_text) }
+    {
+        let mut texts = Vec::with_capacity(alloc, ANSWERS)?;
+        for _ in 0..ANSWERS {
+            texts.push(KeptText::new(alloc))?;
         }
+        Ok(KeptTexts { texts })
     }
 
     /// The text for a target. A refusal has none.
     fn at(&self, target: Target) -> Option<&KeptText>
         ensures { option_map (λ text. text.now) result ≡ kept_at target self.now }
     {
-        match target {
-            Target::Page => Some(&self.page),
-            Target::PageByAge => Some(&self.by_age),
-            Target::Metrics => Some(&self.metrics),
-            Target::Health => Some(&self.health),
-            Target::Plain => Some(&self.plain),
-            _ => None,
-        }
+        self.texts.get(place_of(target)?)
     }
 
     /// The text for a target, if it was made less than a second ago.
@@ -171,22 +186,18 @@ impl KeptTexts {
     ) -> Result<(), AllocError>
         ensures { OnOk result (self.new ≡ with_made target (text_made templates.now target status.now now) self.old) }
     {
-        match target {
-            Target::Page => self.page.make(value, templates, target, status, now),
-            Target::PageByAge => self.by_age.make(value, templates, target, status, now),
-            Target::Metrics => self.metrics.make(value, templates, target, status, now),
-            Target::Health => self.health.make(value, templates, target, status, now),
-            Target::Plain => self.plain.make(value, templates, target, status, now),
+        match place_of(target) {
+            Some(place) if place < self.texts.len() => {
+                self.texts[place].make(value, templates, target, status, now)
+            }
             _ => Ok(()),
         }
     }
 
     /// Each text is made again for whoever asks next.
     pub fn forget(&mut self) {
-        self.page.forget();
-        self.by_age.forget();
-        self.metrics.forget();
-        self.health.forget();
-        self.plain.forget();
+        for text in self.texts.iter_mut() {
+            text.forget();
+        }
     }
 }

@@ -5,7 +5,7 @@ ghost use Rattle.status_ports.specs.Doors.{AskersValue, IsAllowed, IsHeldFor};
 use crate::door::Visitor;
 use crate::kept::{Found, KeptTexts};
 use crate::slot::{Slot, Stage};
-use status_page::{StatusRequest, TEMPLATES, write_refusal};
+use status_page::{StatusRequest, all_templates, write_refusal};
 
 /// Texts that are used while an answer is made: the body of a refusal, and a single value.
 #[derive(Drop)]
@@ -103,7 +103,7 @@ fn answer_one(
             let is_silent = text.is_silent();
             slot.answer(
                 &mut scratch.value,
-                &TEMPLATES,
+                all_templates(),
                 request,
                 is_silent,
                 text.body(),
@@ -113,8 +113,8 @@ fn answer_one(
         Found::Missing => Some(request),
         Found::Refusal => {
             let Scratch { refusal, value } = scratch;
-            if write_refusal(refusal, value, &TEMPLATES, request.target).is_ok() {
-                slot.answer(value, &TEMPLATES, request, false, refusal.as_slice());
+            if write_refusal(refusal, value, all_templates(), request.target).is_ok() {
+                slot.answer(value, all_templates(), request, false, refusal.as_slice());
             }
             None
         }

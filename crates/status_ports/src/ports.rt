@@ -7,7 +7,7 @@ use crate::kept::KeptTexts;
 use crate::places::{Scratch, give_up_all, place_for, seat, serve_all, step_all};
 use crate::slot::Slot;
 use access_list::AccessList;
-use status_page::{StatusRequest, StatusValue, TEMPLATES};
+use status_page::{StatusRequest, StatusValue, all_templates};
 use std::alloc::{AllocError, Global};
 use std::io;
 use std::marker::Model;
@@ -82,10 +82,11 @@ impl StatusPorts {
             name: Vec::new(alloc),
         };
         let door = Door::open(rt, address, askers)?;
+        let kept = KeptTexts::new(alloc)?;
         Ok(StatusPorts {
             door,
             slots,
-            kept: KeptTexts::new(alloc),
+            kept,
             scratch: Scratch {
                 refusal: Vec::new(alloc),
                 value: Vec::new(alloc),
@@ -179,7 +180,7 @@ impl StatusPorts {
     {
         let value = &mut self.scratch.value;
         let target = asked.request.target;
-        match self.kept.make(value, &TEMPLATES, target, status, now) {
+        match self.kept.make(value, all_templates(), target, status, now) {
             Ok(()) => {
                 let _missing = self.serve(now);
             }

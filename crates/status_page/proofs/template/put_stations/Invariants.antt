@@ -4,4 +4,4 @@ use Rattle.status_page.proofs.template.put_stations.Given as goal
 
 abbrev pub invariant-loop-station : goal.invariant-loop-station
 invariant-loop-station l = l.text.items ≡ l.fn.text.items
-    ++ flat_map (station_row l.language l.rows l.silent_after) (take l.station-index l.stations)
+    ++ flat_map (station_row l.language l.rows) (take l.station-index l.stations)

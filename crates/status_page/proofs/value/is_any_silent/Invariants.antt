@@ -4,4 +4,4 @@ use Rattle.status_page.proofs.value.is_any_silent.Given as goal
 
 abbrev pub invariant-loop-station : goal.invariant-loop-station
 invariant-loop-station l =
-    any_silent l.silent_after l.stations ≡ any_silent l.silent_after (drop l.station-index l.stations)
+    any_silent l.stations ≡ any_silent (drop l.station-index l.stations)

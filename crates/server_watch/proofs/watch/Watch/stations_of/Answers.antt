@@ -8,8 +8,8 @@ use Rattle.server_watch.proofs.watch.Watch.stations_of.Goals.{in-Some+else-is_er
 pub loop-place-init : goal.loop-place-init
 loop-place-init c = λ knows.
     subst (λ (l : List StationStatus). TellsUpTo 0 c.args.now c.args.all.now c.args.rings.now
-    c.args.self.now.arrivals.items c.args.users.now l) (sym c.in_ok-stations.ensures.items)
-    (tells-none c.args.now c.args.all.now c.args.rings.now c.args.self.now.arrivals.items c.args.users.now)
+    c.args.self.now.arrivals.items c.args.listed.users.now c.args.listed.limits.now l) (sym c.in_ok-stations.ensures.items)
+    (tells-none c.args.now c.args.all.now c.args.rings.now c.args.self.now.arrivals.items c.args.listed.users.now c.args.listed.limits.now)
 
 pub loop-place-preserved : goal.loop-place-preserved
 loop-place-preserved c = λ knows.
@@ -18,7 +18,7 @@ loop-place-preserved c = λ knows.
           let before = c.loop-place.stations.items in
           let all_right : is_err w.push.result ≡ false = sym w.is_err.ensures.value ∙ w.if-is_err.false in
           let pushed : w.push.new.self.items ≡ before ++ w.in-Some.status ∷ [] = search (rules, all_right) in
-          tells-more c.args.now c.args.all.now c.args.rings.now c.args.self.now.arrivals.items c.args.users.now
+          tells-more c.args.now c.args.all.now c.args.rings.now c.args.self.now.arrivals.items c.args.listed.users.now c.args.listed.limits.now
           c.loop-place.place c.index-all-place.result w.in-Some.status before c.match-station_at.stations.items
           c.loop-place-test.true c.index-all-place.is w.in-Some.ensures.told
           (ap (λ (v : Vec StationStatus Global). v.items) w.stations-is ∙ pushed) (c.loop-place.invariant knows)
