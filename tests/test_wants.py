@@ -363,7 +363,6 @@ TABLE = b"T\n\nNET\tSTATION\tSTATE\tAGE\n"
 SILENT = HEAD % (b"503 Service Unavailable", len(TABLE)) + TABLE
 ANSWERS = [
     ("a healthy server", HEAD % (b"200 OK", len(PLAIN)) + PLAIN, SHOWN + "status 0"),
-    ("a silent station", SILENT, "T\n\nNET  STATION  STATE  AGE\nstatus 1"),
     ("no station", HEAD % (b"200 OK", len(TABLE)) + TABLE, "T\n\nNET  STATION  STATE  AGE\nstatus 0"),
     ("another page", b"HTTP/1.1 404 Not Found\r\nContent-Length: 0\r\n\r\n", "seedlinkd: 52 BadReply\nstatus 1"),
     ("another server", b"ERROR\r\n", "seedlinkd: 52 BadReply\nstatus 1"),
