@@ -16,7 +16,7 @@ use Rattle.std.proofs.lemmas.Iterator.Adapters.{position_from-zero}
 use Rattle.std.proofs.lemmas.Slice.Eq.{bytes_eq-Decides}
 use Rattle.protocol.specs.Catalog.{Entry, Station, has_codes}
 use Rattle.protocol.specs.Reading.{Not}
-use Rattle.code_numbers.proofs.SpellingLemmas.{equal_spelled}
+use Rattle.text_parts.proofs.SpellingLemmas.{equal_spelled}
 use Rattle.catalog.specs.Indexing.{Places, codes_eq, key, place_in, first_place}
 use Rattle.catalog.specs.Indexing.{AreCodes, AreShort, Finds, HasShortCodes}
 use Rattle.catalog.specs.Places.{station_at, HasDistinctCodes, SameCodes}

@@ -13,8 +13,8 @@ use Rattle.std.proofs.lemmas.Slice.Eq.{bytes_eq-Decides}
 use Rattle.protocol.specs.Catalog.{Entry, Station, has_codes}
 use Rattle.protocol.specs.Reading.{Not}
 use Rattle.catalog.specs.Finding.{has_code}
-use Rattle.code_numbers.specs.Spelling.{spelled}
-use Rattle.code_numbers.proofs.SpellingLemmas.{spelled_small}
+use Rattle.text_parts.specs.Spelling.{spelled}
+use Rattle.text_parts.proofs.SpellingLemmas.{spelled_small}
 use Rattle.catalog.specs.Indexing.{codes_eq, key, rank, AreCodes, AreShort, HasShortCodes}
 use Rattle.catalog.specs.Orders.{key_at, rank_at, rank_of, AreAmong, AreInOrder, HasCodesAt, IsAround, IsFirstFrom}
 use Rattle.catalog.specs.Orders.{LacksCodesAt}

@@ -5,7 +5,7 @@ use Rattle.std.specs.declared.hash.FoldHasher.{FoldHasher}
 use Rattle.std.specs.declared.hash.BuildHasherDefault.{BuildHasherDefault}
 use Rattle.std.specs.HashMap.{HashMap, get}
 use Rattle.protocol.specs.Catalog.{Entry, has_codes}
-use Rattle.code_numbers.specs.Spelling.{spelled, AreBytes}
+use Rattle.text_parts.specs.Spelling.{spelled, AreBytes}
 use Rattle.catalog.specs.declared.codes.Codes.{Codes}
 
 -- places by codes

@@ -3,7 +3,7 @@ ghost use Rattle.std.specs.Prelude.{◌≡◌, ◌≤◌, IfNone, IfSome, length
 ghost use Rattle.protocol.specs.Reading.{Not};
 ghost use Rattle.catalog.specs.Indexing.{codes_eq, key, rank, AreCodes, AreShort, IsNumberOf};
 
-use code_numbers::spelled;
+use text_parts::code_numbers::spelled;
 
 /// The code of a station as a number, if it is no longer than such a code may be.
 pub(crate) fn code_number(code: &[u8]) -> Option<u64>

@@ -4,7 +4,7 @@ use Rattle.clap.specs.Words.{Text, fault_of}
 use Rattle.clap.specs.declared.error.ErrorKind.TheVariants.{DisplayVersion, MissingRequiredArgument, UnknownArgument}
 use Rattle.clap.specs.declared.error.ErrorKind.TheVariants.{ValueValidation}
 use Rattle.clap.proofs.OnLiterals.{clap_on_literals}
-use Rattle.periods.specs.declared.period.Period.TheVariants.{Seconds, Turns}
+use Rattle.text_parts.specs.declared.period.Period.TheVariants.{Seconds, Turns}
 use Rattle.command_line.specs.Commands.{program_app}
 use Rattle.command_line.specs.Jobs.{period_of, job_of, verbose_of}
 use Rattle.command_line.specs.Jobs.{CheckAsked, FeedAsked, ReadAsked, ServeAsked, ViewAsked}

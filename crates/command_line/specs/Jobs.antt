@@ -13,8 +13,8 @@ use Rattle.protocol.specs.Reading.{Not}
 use Rattle.protocol.specs.Time.{digits_between}
 use Rattle.command_line.specs.Commands.{program_app}
 use Rattle.command_line.specs.declared.job.CheckOptions.{CheckOptions}
-use Rattle.periods.specs.declared.period.Period.{Period}
-use Rattle.periods.specs.declared.period.Period.TheVariants.{Turns, Seconds}
+use Rattle.text_parts.specs.declared.period.Period.{Period}
+use Rattle.text_parts.specs.declared.period.Period.TheVariants.{Turns, Seconds}
 use Rattle.command_line.specs.declared.job.FeedOptions.{FeedOptions}
 use Rattle.command_line.specs.declared.job.Job.{Job}
 use Rattle.command_line.specs.declared.job.Job.TheVariants as job

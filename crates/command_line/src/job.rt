@@ -1,6 +1,6 @@
 //! What the program can be asked to do.
 
-use periods::Period;
+use text_parts::period::Period;
 
 /// What the program is asked to do, with the texts of the command line as they stand there.
 #[derive(Drop)]

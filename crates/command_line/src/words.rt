@@ -20,9 +20,9 @@ use crate::job::{
 use crate::mistakes::{mistake_text, text_of};
 use clap::ArgMatches;
 use clap::error::ErrorKind;
-use periods::Period;
 use std::alloc::{AllocError, Global};
 use text_parts::decimal;
+use text_parts::period::Period;
 use text_parts::separators::cut_at;
 
 /// The text of an argument, where it has one.

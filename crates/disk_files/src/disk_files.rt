@@ -4,9 +4,10 @@ ghost use Rattle.disk_files.specs.Opened.{name_at};
 
 use crate::folders::{folder_of, make_folders, sync_folder};
 use crate::new_files::NewFiles;
-use crate::open_file::{OpenFile, RECORD, identity_of};
+use crate::open_file::{OpenFile, identity_of};
 use crate::open_files::{NamedFile, OpenFiles};
 use continued_files::{FolderFault, RecordFiles};
+use protocol::limits::RECORD;
 use std::alloc::Global;
 use std::fs::{self, File, Metadata, OpenOptions};
 use std::io::{self, ErrorKind};
@@ -316,7 +317,7 @@ impl<'a> DiskFiles<'a> {
 
     /// Puts the end of a file that is no whole record into another one, and cuts it off.
     fn put_aside(&mut self, path: String, length: u64) -> io::Result<()> {
-        let whole = length - length % RECORD;
+        let whole = length - length % RECORD as u64;
         let Ok(aside) = format!(in self.alloc; "{path}.torn") else {
             return Err(no_memory());
         };
@@ -365,13 +366,13 @@ impl<'a> DiskFiles<'a> {
             Some(found) => found.len(),
             None => 0,
         };
-        if length % RECORD != 0 {
+        if length % RECORD as u64 != 0 {
             self.close(name);
             let path = self.path_of(name)?;
             self.put_aside(path, length)?;
         }
         self.confirm(name, length);
-        Ok(length / RECORD)
+        Ok(length / RECORD as u64)
     }
 
     /// Reads the record at a place of a file.

@@ -1,11 +1,9 @@
 //! A file of records that is open.
+use protocol::limits::RECORD;
 use std::cell::Cell;
 use std::fs::{self, File, Metadata};
 use std::io::{self, ErrorKind, Write};
 use std::os::unix::fs::{FileExt, MetadataExt};
-
-/// The length of a record, in bytes.
-pub(crate) const RECORD: u64 = 512;
 
 /// Which file it is, of those of the machine: its device, and its number there.
 pub(crate) type Identity = (u64, u64);
@@ -81,7 +79,7 @@ impl OpenFile {
     /// How many records stand in it, if its path was seen to name it in this piece.
     pub(crate) fn count_in(&self, piece: u64) -> Option<u64> {
         if self.seen == piece {
-            Some(self.length / RECORD)
+            Some(self.length / RECORD as u64)
         } else {
             None
         }
@@ -100,7 +98,7 @@ impl OpenFile {
 
     /// Reads the record at a place.
     pub(crate) fn read(&self, place: u64, bytes: &mut [u8; 512]) -> io::Result<()> {
-        match place.checked_mul(RECORD) {
+        match place.checked_mul(RECORD as u64) {
             Some(offset) => self.file.read_exact_at(bytes, offset),
             None => Err(io::Error::from(ErrorKind::InvalidInput)),
         }
@@ -112,7 +110,7 @@ impl OpenFile {
         self.written = now;
         match self.file.write_all(bytes) {
             Ok(()) => {
-                self.length = self.length.saturating_add(RECORD);
+                self.length = self.length.saturating_add(RECORD as u64);
                 Ok(())
             }
             Err(reason) => {

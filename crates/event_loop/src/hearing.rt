@@ -21,12 +21,10 @@ use crate::deciding::turn_away;
 use crate::seat::{FeedRest, Role, Seat};
 use crate::seats::{Seats, clients, mark_readable, mark_writable, place_of};
 use ports::{AwayReason, Decision, Happening, Party, PortFault, Ports};
+use protocol::limits::FEEDS;
 use server_core::Server;
 use std::alloc::Global;
 use std::net::Ipv4Addr;
-
-/// How many feeds' ports may be open.
-const FEEDS: usize = 16;
 
 /// What was heard by one call.
 #[derive(Clone, Copy, Drop)]

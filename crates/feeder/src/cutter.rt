@@ -1,11 +1,9 @@
 //! Records out of bytes.
 ghost use Rattle.std.specs.Prelude.{◌≡◌, ◌++◌, length, take};
 
+use protocol::limits::RECORD;
 use sl_packet::Unfinished;
 use std::marker::Model;
-
-/// The length of a record, in bytes.
-const RECORD: usize = 512;
 
 /// What a piece of a feed gives.
 #[derive(Clone, Copy)]

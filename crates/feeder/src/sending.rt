@@ -9,11 +9,9 @@ ghost use Rattle.feeder.specs.Sending.{Breaks, Passes, StopsSending, capped, sen
 ghost use Rattle.feeder.specs.Sending.{whole_part};
 ghost use Rattle.feeder.specs.declared.sending.SendFault.TheVariants.{Partial, Read};
 
+use protocol::limits::RECORD;
 use protocol::reason::Reason;
 use sl_io::{Sink, Source, write_all};
-
-/// The length of a record, in bytes.
-const RECORD: usize = 512;
 
 /// How many bytes are read at most by one call, with those of an unfinished record.
 const BLOCK: usize = 65_536;

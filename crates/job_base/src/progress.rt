@@ -5,12 +5,10 @@
 ghost use Rattle.std.specs.Prelude.{◌≡◌};
 
 use files::milliseconds;
+use protocol::limits::RECORD;
 use std::fs::File;
 use std::io::{self, Read};
 use std::marker::Model;
-
-/// The length of a record, in bytes.
-const RECORD: u64 = 512;
 
 /// Whether the standard error is a terminal.
 pub fn is_terminal() -> bool {
@@ -104,7 +102,7 @@ impl<'r, T> Watched<'r, T> {
     /// Shows how far it is.
     fn show(&self) {
         let bytes = self.meter.bytes;
-        let records = bytes / RECORD;
+        let records = bytes / RECORD as u64;
         let _ = match self.size {
             Some(size) => eprint!(self.rt; "\r{records} records, {bytes} of {size} bytes\x1b[K"),
             None => eprint!(self.rt; "\r{records} records, {bytes} bytes\x1b[K"),

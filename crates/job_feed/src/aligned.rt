@@ -4,11 +4,9 @@ ghost use Rattle.std.specs.Io.{ReadsAtMost};
 ghost use Rattle.job_feed.specs.Aligning.{begins, is_followed, is_record};
 
 use mseed_header::read;
+use protocol::limits::RECORD;
 use std::alloc::Global;
 use std::io::{self, ErrorKind, Read};
-
-/// The length of a record, in bytes.
-const RECORD: usize = 512;
 
 /// How many bytes are read at most by one call.
 const PIECE: usize = 16_384;

@@ -14,12 +14,10 @@ use crate::fault::FeedFault;
 use crate::feeding::await_end;
 use crate::waiting::WaitingStream;
 use feeder::{SendFault, send};
+use protocol::limits::RECORD;
 use sl_io::{DeviceFault, Outer, Sink, Source};
 use std::io::{ErrorKind, Write};
 use std::net::{Shutdown, TcpStream};
-
-/// The length of a record, in bytes.
-const RECORD: u64 = 512;
 
 /// Whether a connection is over before this side has ended it: the server has ended its half, or the connection has
 /// failed.
@@ -146,7 +144,7 @@ impl<T: Write + Drop> Feed<T> {
     pub fn records(&self) -> u64
         ensures { result ≡ self.now.taken / 512 }
     {
-        self.taken / RECORD
+        self.taken / RECORD as u64
     }
 }
 

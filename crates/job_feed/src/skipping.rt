@@ -2,19 +2,17 @@
 ghost use Rattle.std.specs.Prelude.{◌≡◌, drop, Some, IfSome, OnOk};
 ghost use Rattle.job_feed.specs.Skipping.{bytes_before};
 
+use protocol::limits::RECORD;
 use sl_io::{DeviceFault, Source};
 
 /// How many bytes are read at most by one call.
 const BLOCK: usize = 4096;
 
-/// The length of a record, in bytes.
-const RECORD: u64 = 512;
-
 /// How many bytes of a file are before a record, by its number from 1 on; at most 2^64 - 1.
 pub fn bytes_before(number: u64) -> u64
     ensures { result ≡ bytes_before number }
 {
-    number.saturating_sub(1).saturating_mul(RECORD)
+    number.saturating_sub(1).saturating_mul(RECORD as u64)
 }
 
 /// Passes over so many bytes of a reader, or all that are left if these are fewer. It fails if a read fails.

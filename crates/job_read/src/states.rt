@@ -15,6 +15,7 @@ use continued_files::FileLength;
 use disk_files::{FileFailure, ONE_FILE};
 use files::{milliseconds, place_of, replace, text_in};
 use incidents::{Failure, Incident, Place, Site};
+use protocol::limits::RECORD;
 use protocol::reason::Reason;
 use reader_run::{KeepFault, Keeper, RecordSink};
 use reader_state::{
@@ -25,9 +26,6 @@ use std::alloc::{AllocError, Global};
 use std::fs::File;
 use std::io::ErrorKind;
 use std::{fs, io};
-
-/// The length of a record, in bytes.
-const RECORD: u64 = 512;
 
 /// A file with the state of a reader: what it said when the reader began, and what it is to say.
 #[derive(Drop)]
@@ -104,7 +102,7 @@ impl<'a> StateFile<'a> {
             return Ok(());
         }
         let count = match fs::metadata(rt, output) {
-            Ok(found) => found.len() / RECORD,
+            Ok(found) => found.len() / RECORD as u64,
             Err(reason) => return Err(job_base::unopened(output, reason)),
         };
         if self.before.put_file(rt.alloc(), ONE_FILE, count).is_err() {

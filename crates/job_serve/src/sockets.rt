@@ -14,6 +14,7 @@ use incidents::Incident;
 use job_base::ServerAddress;
 use ports_logged::LoggedPorts;
 use ports_socket::{Admission, MioPorts};
+use protocol::limits::FEEDS;
 use status_ports::StatusPorts;
 use std::alloc::AllocError;
 use std::net::Ipv4Addr;
@@ -167,9 +168,6 @@ fn serve_watched<'a, 'l>(
         Err(_) => Err(no_memory()),
     }
 }
-
-/// How many feeds can be connected.
-const FEEDS: usize = 16;
 
 /// Ports that tell who comes and goes, and how many records of each feed were refused: in lines, if there are any, and
 /// in counts, if there are some.

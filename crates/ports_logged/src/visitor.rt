@@ -6,10 +6,8 @@ ghost use Rattle.ports_logged.specs.Visitors.{fresh, is_uncut, records_given};
 use crate::traffic::Traffic;
 use crate::visit::Visit;
 use ports::{Party, PresentClient};
+use protocol::limits::RECORD;
 use std::net::Ipv4Addr;
-
-/// How long a record is.
-pub const RECORD: u64 = 512;
 
 /// Who is at a port, and what went over it.
 #[derive(Clone, Copy, Drop)]
@@ -55,7 +53,7 @@ impl Visitor {
             Party::Feed => Visit::FeedOver {
                 port,
                 address,
-                records: traffic.given / RECORD,
+                records: traffic.given / RECORD as u64,
                 refused: traffic.refused,
             },
         }
@@ -67,7 +65,7 @@ pub fn records_given(visitor: Option<Visitor>) -> u64
     ensures { result ≡ records_given visitor }
 {
     match visitor {
-        Some(visitor) => visitor.traffic.given / RECORD,
+        Some(visitor) => visitor.traffic.given / RECORD as u64,
         None => 0,
     }
 }

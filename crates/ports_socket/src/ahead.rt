@@ -8,14 +8,12 @@ ghost use Rattle.ports_socket.specs.Receipts.{IsFilled, IsReceived};
 
 use crate::socket_io::{Receipt, receive};
 use mio::net::TcpStream;
+use protocol::limits::FEEDS;
 use std::alloc::{AllocError, Global};
 use std::marker::Model;
 
 /// How many bytes are read ahead at most.
 pub const BLOCK: usize = 65_536;
-
-/// How many feeds are read ahead: as many as a loop lets be open.
-const FEEDS: usize = 16;
 
 /// Bytes that were read and not taken yet. In a contract it is these bytes, in the order in which they came.
 #[derive(Drop)]

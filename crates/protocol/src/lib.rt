@@ -36,6 +36,7 @@ ghost use Rattle.protocol.specs.Offers.{arrivals, client_after, offers, bytes_si
 ghost use Rattle.protocol.specs.Offers.{offers_to, handed_to_since};
 ghost use Rattle.protocol.specs.Transfers.{KeepsUp, MissesAreOverruns, HandsItsChoices, MissesNothing};
 
+pub mod limits;
 pub mod reason;
 pub mod record;
 

@@ -15,8 +15,8 @@ use Rattle.std.proofs.lemmas.List.Folds.{list_any_at}
 use Rattle.std.proofs.Math.Seq.{get_or-append_seam}
 use Rattle.std.proofs.lemmas.Slice.Eq.{bytes_eq-Decides}
 use Rattle.protocol.specs.Record.{Facts}
-use Rattle.code_numbers.specs.Spelling.{spelled}
-use Rattle.code_numbers.proofs.SpellingLemmas.{equal_spelled}
+use Rattle.text_parts.specs.Spelling.{spelled}
+use Rattle.text_parts.proofs.SpellingLemmas.{equal_spelled}
 use Rattle.record_check.specs.Index.{StreamPlaces, name_of, names_eq, place_in}
 use Rattle.record_check.specs.Index.{AreCodes, Finds, IsAt, IsCode}
 use Rattle.record_check.specs.Streams.{StreamValue, begun, gone_on, is_known, is_of, on_if, streams_with}

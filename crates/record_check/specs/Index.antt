@@ -5,7 +5,7 @@ use Rattle.std.specs.declared.hash.FoldHasher.{FoldHasher}
 use Rattle.std.specs.declared.hash.BuildHasherDefault.{BuildHasherDefault}
 use Rattle.std.specs.HashMap.{HashMap, get}
 use Rattle.protocol.specs.Record.{Facts}
-use Rattle.code_numbers.specs.Spelling.{spelled, AreBytes}
+use Rattle.text_parts.specs.Spelling.{spelled, AreBytes}
 use Rattle.record_check.specs.declared.stream_name.StreamName.{StreamName}
 use Rattle.record_check.specs.Streams.{StreamValue, is_of}
 use Rattle.record_check.specs.Words.{kind_letter}

@@ -3,8 +3,8 @@ ghost use Rattle.std.specs.Prelude.{◌≡◌};
 ghost use Rattle.record_check.specs.Index.{name_of, AreCodes};
 
 use crate::texts::kind_letter;
-use code_numbers::spelled;
 use mseed_header::Header;
+use text_parts::code_numbers::spelled;
 
 /// The codes of a stream, each spelled as a number, and the letter of its type.
 #[derive(Clone, Copy, PartialEq, Eq, Hash)]

@@ -7,8 +7,8 @@ use Rattle.protocol.specs.Catalog.{Config, is_same_but_for_access}
 use Rattle.protocol.specs.World.{World}
 use Rattle.event_loop.specs.Loops.{LoopValue}
 use Rattle.station_ring.specs.Levels.{raises_after}
-use Rattle.periods.specs.declared.period.Period.{Period}
-use Rattle.periods.specs.declared.period.Period.TheVariants.{Seconds, Turns}
+use Rattle.text_parts.specs.declared.period.Period.{Period}
+use Rattle.text_parts.specs.declared.period.Period.TheVariants.{Seconds, Turns}
 use Rattle.serving.specs.declared.between.Due.{Due}
 use Rattle.serving.specs.declared.between.Refusal.TheVariants.{Different}
 use Rattle.serving.specs.declared.timetable.Timetable.{Timetable}

@@ -2,7 +2,7 @@
 use Rattle.std.proofs.Common.{◌≡◌, ℕ, zero, suc, ◌+◌, ◌-◌, ◌*◌, ◌/◌, ◌<◌, ◌≤◌, ◌↔◌, nat_le, Bool, true, false}
 use Rattle.std.proofs.Common.{List, [], ◌∷◌, length, slice_index_or, Option, Some, None, arith}
 use Rattle.std.proofs.lemmas.Bool.Decides.{nat_tests}
-use Rattle.periods.specs.declared.period.Period.TheVariants.{Seconds}
+use Rattle.text_parts.specs.declared.period.Period.TheVariants.{Seconds}
 use Rattle.serving.specs.Paces.{ComesOnTime, DontFall, HavePassed, comes_at, comes_by, last_before, last_by}
 
 -- whole seconds passed, by milliseconds

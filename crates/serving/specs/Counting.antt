@@ -3,7 +3,7 @@ use Rattle.std.specs.Prelude.{◌≡◌, ℕ, zero, suc, ◌+◌, Bool, true, fa
 use Rattle.protocol.specs.Catalog.{Config}
 use Rattle.protocol.specs.World.{World}
 use Rattle.event_loop.specs.Loops.{LoopValue}
-use Rattle.periods.specs.declared.period.Period.{Period}
+use Rattle.text_parts.specs.declared.period.Period.{Period}
 use Rattle.serving.specs.declared.timetable.Timetable.{Timetable}
 use Rattle.serving.specs.Timetables.{is_due, is_timed, turns_of}
 use Rattle.serving.specs.Asked.{Asked}

@@ -2,9 +2,9 @@
 -- Paces are this project's own. Left out: how time passes between two looks at a clock.
 use Rattle.std.specs.Prelude.{◌≡◌, ℕ, zero, suc, ◌+◌, ◌-◌, ◌*◌, ◌<◌, ◌≤◌, ◌↔◌, Bool, true, false}
 use Rattle.std.specs.Prelude.{List, [], ◌∷◌, length, slice_index_or, Option, Some, None}
-use Rattle.periods.specs.Periods.{has_passed}
-use Rattle.periods.specs.declared.period.Period.{Period}
-use Rattle.periods.specs.declared.period.Period.TheVariants.{Seconds}
+use Rattle.text_parts.specs.Periods.{has_passed}
+use Rattle.text_parts.specs.declared.period.Period.{Period}
+use Rattle.text_parts.specs.declared.period.Period.TheVariants.{Seconds}
 use Rattle.serving.specs.declared.between.Due.{Due}
 use Rattle.serving.specs.declared.pace.Pace.{Pace}
 

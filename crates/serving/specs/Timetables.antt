@@ -1,9 +1,9 @@
 -- When a server stops between its turns. Timetables are this project's own. Left out: how time passes.
 use Rattle.std.specs.Prelude.{ℕ, ◌-◌, ◌^◌, ◌||◌, ◌&&◌, nat_lt, Bool, true, false, if◌then◌else◌, Option, Some, None}
 use Rattle.std.specs.Prelude.{unwrap_or}
-use Rattle.periods.specs.Periods.{is_by_time as is_period_of_time, is_due_after}
-use Rattle.periods.specs.declared.period.Period.{Period}
-use Rattle.periods.specs.declared.period.Period.TheVariants.{Seconds, Turns}
+use Rattle.text_parts.specs.Periods.{is_by_time as is_period_of_time, is_due_after}
+use Rattle.text_parts.specs.declared.period.Period.{Period}
+use Rattle.text_parts.specs.declared.period.Period.TheVariants.{Seconds, Turns}
 use Rattle.serving.specs.declared.between.Due.{Due}
 use Rattle.serving.specs.declared.timetable.Timetable.{Timetable}
 

@@ -2,7 +2,7 @@
 ghost use Rattle.std.specs.Prelude.{◌≡◌};
 ghost use Rattle.serving.specs.Paces.{after, comes, new_pace};
 
-use periods::Period;
+use text_parts::period::Period;
 
 /// What is done every so many seconds, if it is, and when it was done last, in milliseconds of some clock.
 #[derive(Clone, Copy, Drop)]

@@ -8,7 +8,7 @@ ghost use Rattle.std.specs.Prelude.{◌≡◌, Some, None, false};
 ghost use Rattle.serving.specs.Timetables.{due_after, is_by_time, is_due, is_keep_due, is_timed, turns_of};
 
 use crate::between::Due;
-use periods::Period;
+use text_parts::period::Period;
 
 /// After how many turns a server ends, and how often it reads its configuration again and reports what it has done.
 /// Without a number of turns it ends after 2^64 - 1; without a period, or with one of 0 turns, it never stops for it.

@@ -15,7 +15,7 @@ use Rattle.std.proofs.lemmas.Bool.{false≢true}
 use Rattle.std.proofs.lemmas.Bool.Decides.{leb_tells}
 use Rattle.std.proofs.lemmas.Slice.Eq.{bytes_eq-Decides}
 use Rattle.protocol.specs.Record.{Facts}
-use Rattle.code_numbers.proofs.SpellingLemmas.{equal_spelled}
+use Rattle.text_parts.proofs.SpellingLemmas.{equal_spelled}
 use Rattle.slreader.specs.Placing.{ArePlaces, Finds, Firsts, Follows, HasPlaces, IsShort, Name, codes_eq, first_from}
 use Rattle.slreader.specs.Placing.{is_same_name, key, name_of, names}
 use Rattle.slreader.specs.Tallies.{ReachedValue, Resume, has_codes, passed, reached_at}

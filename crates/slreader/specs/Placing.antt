@@ -6,7 +6,7 @@ use Rattle.std.specs.Str.{bytes_eq}
 use Rattle.std.specs.declared.hash.FoldHasher.{FoldHasher}
 use Rattle.std.specs.declared.hash.BuildHasherDefault.{BuildHasherDefault}
 use Rattle.std.specs.HashMap.{HashMap, get}
-use Rattle.code_numbers.specs.Spelling.{spelled, AreBytes}
+use Rattle.text_parts.specs.Spelling.{spelled, AreBytes}
 use Rattle.slreader.specs.Tallies.{Resume}
 use Rattle.slreader.specs.declared.places.WantCodes.{WantCodes}
 use Rattle.slreader.specs.declared.places.WantPlaces.{WantPlaces}

@@ -10,9 +10,9 @@ ghost use Rattle.protocol.specs.Reading.{Not};
 ghost use Rattle.slreader.specs.Placing.{codes_eq, is_same_name, key, name_by, names, Finds, Follows, IsShort, Name};
 
 use crate::tally::Resume;
-use code_numbers::spelled;
 use std::alloc::{AllocError, Global};
 use std::collections::HashMap;
+use text_parts::code_numbers::spelled;
 
 /// The codes of a network and of a station in it, each spelled as a number.
 #[derive(Clone, Copy, PartialEq, Eq, Hash)]

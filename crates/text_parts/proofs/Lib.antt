@@ -1,1 +1,2 @@
 mod DigitLemmas
+pub mod SpellingLemmas

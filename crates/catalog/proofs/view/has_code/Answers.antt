@@ -1,6 +1,6 @@
 use Rattle.std.proofs.Common.{◌==◌, ◌∙◌, ap, ap₂, arith}
 use Rattle.catalog.specs.declared.codes.Codes.{Codes}
-use Rattle.code_numbers.proofs.SpellingLemmas.{equal_spelled}
+use Rattle.text_parts.proofs.SpellingLemmas.{equal_spelled}
 use Rattle.catalog.proofs.view.has_code.Goals as goal
 
 pub returns : goal.returns

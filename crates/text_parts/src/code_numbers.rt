@@ -1,9 +1,8 @@
 //! Codes of networks, stations and channels as numbers, so that two are compared, hashed or put in order in one step.
-#![tactic(auto)]
 
 ghost use Rattle.std.specs.Prelude.{◌≡◌, ◌≤◌, length};
 ghost use Rattle.std.specs.List.{slice_index};
-ghost use Rattle.code_numbers.specs.Spelling.{spelled as spec_spelled, AreBytes};
+ghost use Rattle.text_parts.specs.Spelling.{spelled as spec_spelled, AreBytes};
 
 /// A byte of a text, or 0 after the last.
 fn byte_at(text: &[u8], at: usize) -> u8

@@ -6,7 +6,7 @@ use Rattle.std.proofs.lemmas.Bool.{false≢true}
 use Rattle.std.proofs.lemmas.Grind.{same_number_lists}
 use Rattle.std.proofs.lemmas.Nat.{be_bytes_8}
 use Rattle.std.proofs.lemmas.Slice.Eq.{bytes_eq-Decides}
-use Rattle.code_numbers.specs.Spelling.{digits, spelled, AreBytes}
+use Rattle.text_parts.specs.Spelling.{digits, spelled, AreBytes}
 
 -- the digits of a text are bytes
 digits_are_bytes : (t : List ℕ) → length t ≤ 7 → AreBytes t → (i : ℕ) → get_or (digits t) i 0 < 256

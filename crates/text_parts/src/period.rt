@@ -1,6 +1,6 @@
 //! How often something is done.
 ghost use Rattle.std.specs.Prelude.{◌≡◌};
-ghost use Rattle.periods.specs.Periods.{has_passed, is_by_time, is_due_after};
+ghost use Rattle.text_parts.specs.Periods.{has_passed, is_by_time, is_due_after};
 
 /// How often something is done.
 #[derive(Clone, Copy, Drop)]

@@ -1,7 +1,7 @@
 -- How often something is done. Periods are this project's own. Left out: how time passes.
 use Rattle.std.specs.Prelude.{ℕ, zero, suc, ◌/◌, ◌%◌, ◌==◌, nat_le, Bool, true, false}
-use Rattle.periods.specs.declared.period.Period.{Period}
-use Rattle.periods.specs.declared.period.Period.TheVariants.{Seconds, Turns}
+use Rattle.text_parts.specs.declared.period.Period.{Period}
+use Rattle.text_parts.specs.declared.period.Period.TheVariants.{Seconds, Turns}
 
 -- it goes by time
 abbrev pub is_by_time : Period → Bool
