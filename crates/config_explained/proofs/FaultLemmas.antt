@@ -1,12 +1,24 @@
 -- All faults of a configuration, one step and one station after the other.
 use Rattle.std.proofs.Common.{◌≡◌, ◌∙◌, ℕ, ◌+◌, ◌<◌, ◌≤◌, zero, suc, Bool, List, [], ◌∷◌, ◌++◌, Option, length, drop}
 use Rattle.std.proofs.Common.{take, map, flat_map, get_or, refl, sym, ap, ap₂, arith, add-one, append_assoc, append-nil}
-use Rattle.std.proofs.Common.{drop-cons}
+use Rattle.std.proofs.Common.{drop-cons, None, Some}
+use Rattle.std.specs.Prelude.{◌≢◌, IfErr, IfOk, MatchResult, Result, Err, Ok}
+use Rattle.std.specs.Result.{result_err}
 use Rattle.std.proofs.lemmas.List.{get_or-map, length-map, take_more}
 use Rattle.std.specs.List.{list_any}
 use Rattle.toml.specs.Data.{Data, Members}
 use Rattle.catalog.specs.Keys.{table_in}
+use Rattle.catalog.specs.declared.fault.ConfigFault.{ConfigFault}
+use Rattle.catalog.specs.declared.fault.ConfigFault.TheVariants.{OutOfMemory}
 use Rattle.config_explained.specs.AllFaults.{FoundFault, value_faults, values_faults}
+
+-- A reading that does what a definition says, or lacks memory, has its fault, as far as it is one of the definition's.
+pub fault_told : {T S : Type 0} (r : Result T ConfigFault) (meant : Result S ConfigFault) (value : T → S)
+    (fault : Option ConfigFault) → IfOk r (λ v. meant ≡ Ok (value v))
+    → IfErr r (λ e. e ≢ OutOfMemory → meant ≡ Err e)
+    → MatchResult r (λ _. fault ≡ None) (λ e. (fault ≡ Some e) × (e ≢ OutOfMemory)) → fault ≡ result_err meant
+fault_told (Ok v) meant value fault ok err told = told ∙ sym (ap result_err ok)
+fault_told (Err e) meant value fault ok err told = told.0 ∙ sym (ap result_err (err told.1))
 
 -- a test of each element behind a map
 pub list_any_map : {A B : Type 0} (f : A → B) (p : B → Bool) (xs : List A)

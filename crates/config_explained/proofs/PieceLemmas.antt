@@ -1,8 +1,28 @@
--- A text for each piece of a list, one after the other.
+-- The pieces of a list, one after the other, with a text for each.
 use Rattle.std.proofs.Common.{◌≡◌, ℕ, ◌+◌, ◌<◌, Bool, true, false, ◌||◌, List, ◌∷◌, [], ◌++◌, length, drop, get_or}
 use Rattle.std.proofs.Common.{flat_map, sym, ap, ◌∙◌}
 use Rattle.std.proofs.Common.{append_assoc, append-nil, add-one, drop-cons}
+use Rattle.std.proofs.Common.{Option, Some, None, map}
+use Rattle.std.specs.Iterator.{Yields}
 use Rattle.std.specs.List.{list_any}
+use Rattle.std.proofs.lemmas.Iterator.{YieldsList}
+use Rattle.std.proofs.lemmas.Iterator.Consumers.{YieldsList-turn, YieldsList-end}
+
+-- ---- where a walk is
+
+-- where the piece at hand stands, by the steps first
+pub turn_of : {S A B : Type 0} {steps : S → Option A → S → Type 0} {v : A → B} {s : S} {all : List B}
+    (xs : List A) (t : S) (y : Yields steps s xs t) → (r : Option A) (u : S) (x : A) → r ≡ Some x → steps t r u
+    → (e : YieldsList steps v s all) → (length xs < length all) × (v x ≡ get_or all (length xs) (v x))
+turn_of xs t y r u x is step e = YieldsList-turn e xs t y r u x is step
+
+-- at the end, how many there were
+pub end_of : {S A B : Type 0} {steps : S → Option A → S → Type 0} {v : A → B} {s : S} {all : List B}
+    (xs : List A) (t : S) (y : Yields steps s xs t) → (r : Option A) (u : S) → r ≡ None → steps t r u
+    → (e : YieldsList steps v s all) → (map v xs ≡ all) × (length xs ≡ length all)
+end_of xs t y r u is step e = YieldsList-end e xs t y r u is step
+
+-- ---- a text for each
 
 -- the texts of the pieces that are left
 abbrev pub pieces_left : (List ℕ → List ℕ) → List (List ℕ) → ℕ → List ℕ

@@ -1,7 +1,8 @@
 -- Entries of access lists that admit something else than their text looks like, and the lines that tell it.
 use Rattle.std.specs.Prelude.{ℕ, zero, suc, ◌+◌, ◌==◌, ◌&&◌, ◌||◌, Bool, if◌then◌else◌, List, [], ◌∷◌, ◌++◌, bit_and}
-use Rattle.std.specs.Prelude.{codes, flat_map, Option, Some, None, option_and_then}
+use Rattle.std.specs.Prelude.{codes, flat_map, not, true, Option, Some, None, option_and_then}
 use Rattle.std.specs.Result.{result_ok}
+use Rattle.std.specs.Str.{bytes_eq}
 use Rattle.toml.specs.Data.{Members, no_members, member, as_str}
 use Rattle.protocol.specs.Access.{Token}
 use Rattle.protocol.specs.Catalog.{Station}
@@ -15,6 +16,8 @@ use Rattle.config_explained.specs.Unknown.{Whose, owner_words}
 use Rattle.config_explained.specs.Unknown.Whose.{TheGroup, TheServer, TheStation}
 use Rattle.config_explained.specs.declared.remark.Remark.{Remark}
 use Rattle.config_explained.specs.declared.remark.Remark.TheVariants.{Everybody, Nobody, Scattered, Outside}
+use Rattle.config_explained.specs.declared.remark.Remarked.{Remarked}
+use Rattle.config_explained.specs.declared.remark.Remarked.TheVariants.{EachEntry, OddEntries}
 
 -- ---- one entry
 
@@ -52,34 +55,45 @@ entry_remark o entry = remark_line o entry (option_and_then remark_of (result_ok
 
 -- ---- all of them
 
--- the lines of a list's entries
-abbrev pub list_remarks : Whose → List ℕ → List ℕ
-list_remarks o list = flat_map (entry_remark o) (split is_separator list)
+-- an entry is looked at
+abbrev pub is_looked_at : Remarked → List ℕ → Bool
+is_looked_at EachEntry entry = true
+is_looked_at OddEntries entry = not (bytes_eq entry (codes "0.0.0.0/0"))
 
-abbrev pub remarks_if : Whose → Option (List ℕ) → List ℕ
-remarks_if o None = []
-remarks_if o (Some list) = list_remarks o list
+-- its line, if it is looked at
+abbrev pub remark_if : Remarked → Whose → List ℕ → List ℕ
+remark_if which o entry = if is_looked_at which entry then entry_remark o entry else []
+
+-- the lines of a list's entries
+abbrev pub list_remarks : Remarked → Whose → List ℕ → List ℕ
+list_remarks which o list = flat_map (remark_if which o) (split is_separator list)
+
+abbrev pub remarks_if : Remarked → Whose → Option (List ℕ) → List ℕ
+remarks_if which o None = []
+remarks_if which o (Some list) = list_remarks which o list
 
 -- the lines of a station's own list
-abbrev pub station_remarks : Members → ℕ → Station → List ℕ
-station_remarks keys place s =
-    remarks_if (TheStation (place + 1) s) (text_at keys (step.Station place station.Access))
+abbrev pub station_remarks : Remarked → Members → ℕ → Station → List ℕ
+station_remarks which keys place s =
+    remarks_if which (TheStation (place + 1) s) (text_at keys (step.Station place station.Access))
 
 -- those of stations from a place on
-abbrev pub remarks_from : Members → ℕ → List Station → List ℕ
-remarks_from keys place [] = []
-remarks_from keys place (s ∷ ss) = station_remarks keys place s ++ remarks_from keys (place + 1) ss
+abbrev pub remarks_from : Remarked → Members → ℕ → List Station → List ℕ
+remarks_from which keys place [] = []
+remarks_from which keys place (s ∷ ss) = station_remarks which keys place s ++ remarks_from which keys (place + 1) ss
 
 -- the lines of the groups
-abbrev pub groups_remarks : Members → List ℕ
-groups_remarks no_members = []
-groups_remarks (member name value rest) = remarks_if (TheGroup name) (as_str value) ++ groups_remarks rest
+abbrev pub groups_remarks : Remarked → Members → List ℕ
+groups_remarks which no_members = []
+groups_remarks which (member name value rest) =
+    remarks_if which (TheGroup name) (as_str value) ++ groups_remarks which rest
 
-abbrev pub groups_remarks_if : Option Members → List ℕ
-groups_remarks_if None = []
-groups_remarks_if (Some groups) = groups_remarks groups
+abbrev pub groups_remarks_if : Remarked → Option Members → List ℕ
+groups_remarks_if which None = []
+groups_remarks_if which (Some groups) = groups_remarks which groups
 
 -- the lines of the server's list, of the groups and of the stations' own lists
-abbrev pub remarks_text : Members → List Station → List ℕ
-remarks_text keys ss =
-    remarks_if TheServer (text_at keys step.Access) ++ groups_remarks_if (groups_of keys) ++ remarks_from keys 0 ss
+abbrev pub remarks_text : Remarked → Members → List Station → List ℕ
+remarks_text which keys ss =
+    remarks_if which TheServer (text_at keys step.Access) ++ groups_remarks_if which (groups_of keys)
+    ++ remarks_from which keys 0 ss

@@ -1,5 +1,6 @@
 //! All faults of a configuration: each step of its reading that fails, also behind the first.
-ghost use Rattle.std.specs.Prelude.{◌≡◌, ◌++◌, [], IfOk, OnOk, flat_map, length, map, option_map};
+ghost use Rattle.std.specs.Prelude.{◌≡◌, ◌≢◌, ◌++◌, [], IfOk, MatchResult, None, OnOk, Some, flat_map, length, map};
+ghost use Rattle.std.specs.Prelude.{option_map};
 ghost use Rattle.std.specs.List.{list_any};
 ghost use Rattle.std.specs.Result.{result_err, result_ok};
 ghost use Rattle.std.specs.Str.{IsUtf8};
@@ -27,27 +28,12 @@ use catalog::{ConfigError, ConfigFault, Groups, StationStep, Step};
 use std::alloc::{AllocError, Global};
 use toml::{Table, Value};
 
-/// Why the title is refused, if it is.
-fn title_fault(alloc: Global, table: &Table) -> Result<Option<ConfigFault>, AllocError>
-    ensures { IfOk result (λ fault. fault ≡ result_err (title_of (table_view table.now))) }
+/// Why a step fails, if it does. Only memory can lack.
+fn fault_of<T: Drop>(read: Result<T, ConfigFault>) -> Result<Option<ConfigFault>, AllocError>
+    ensures { IfOk result (λ fault. MatchResult read (λ _. fault ≡ None)
+        (λ e. (fault ≡ Some e) × (e ≢ ConfigFault.OutOfMemory))) }
 {
-    match title_of(alloc, table) {
-        Ok(_) => Ok(None),
-        Err(ConfigFault::OutOfMemory) => Err(AllocError),
-        Err(fault) => Ok(Some(fault)),
-    }
-}
-
-/// Why a list is refused, if it is.
-fn access_fault(
-    alloc: Global,
-    groups: &Groups<'_>,
-    table: &Table,
-) -> Result<Option<ConfigFault>, AllocError>
-    ensures { IfOk result (λ fault.
-        fault ≡ result_err (access_of (groups_value groups.now) (table_view table.now))) }
-{
-    match access_of(alloc, groups, table) {
+    match read {
         Ok(_) => Ok(None),
         Err(ConfigFault::OutOfMemory) => Err(AllocError),
         Err(fault) => Ok(Some(fault)),
@@ -76,6 +62,7 @@ fn tell_server(
 }
 
 /// The server's own keys.
+#[tactic(auto, using(crate::proofs::FaultLemmas::fault_told))]
 fn tell_server_keys(
     alloc: Global,
     faults: &mut Vec<ConfigError>,
@@ -84,12 +71,9 @@ fn tell_server_keys(
     ensures { OnOk result (map found_fault faults.new.items
         ≡ map found_fault faults.old.items ++ server_faults (table_view table.now)) }
 {
-    tell_server(faults, Step::Title, title_fault(alloc, table)?)?;
-    tell_server(
-        faults,
-        Step::Access,
-        access_fault(alloc, &Groups::of(table), table)?,
-    )?;
+    tell_server(faults, Step::Title, fault_of(title_of(alloc, table))?)?;
+    let access = access_of(alloc, &Groups::of(table), table);
+    tell_server(faults, Step::Access, fault_of(access)?)?;
     tell_server(faults, Step::MaxConnections, connections_of(table).err())?;
     tell_server(faults, Step::Stations, station_values(table).err())
 }
@@ -118,40 +102,8 @@ fn valid_code(alloc: Global, table: &Table) -> Result<Option<Vec<u8>>, AllocErro
     }
 }
 
-/// Why a description is refused, if it is.
-fn description_fault(alloc: Global, table: &Table) -> Result<Option<ConfigFault>, AllocError>
-    ensures { IfOk result (λ fault. fault ≡ result_err (description_of (table_view table.now))) }
-{
-    match description_of(alloc, table) {
-        Ok(_) => Ok(None),
-        Err(ConfigFault::OutOfMemory) => Err(AllocError),
-        Err(fault) => Ok(Some(fault)),
-    }
-}
-
-/// Why a network is refused, if it is.
-fn network_fault(alloc: Global, table: &Table) -> Result<Option<ConfigFault>, AllocError>
-    ensures { IfOk result (λ fault. fault ≡ result_err (network_of (table_view table.now))) }
-{
-    match network_of(alloc, table) {
-        Ok(_) => Ok(None),
-        Err(ConfigFault::OutOfMemory) => Err(AllocError),
-        Err(fault) => Ok(Some(fault)),
-    }
-}
-
-/// Why a code is refused, if it is.
-fn code_fault(alloc: Global, table: &Table) -> Result<Option<ConfigFault>, AllocError>
-    ensures { IfOk result (λ fault. fault ≡ result_err (code_of (table_view table.now))) }
-{
-    match code_of(alloc, table) {
-        Ok(_) => Ok(None),
-        Err(ConfigFault::OutOfMemory) => Err(AllocError),
-        Err(fault) => Ok(Some(fault)),
-    }
-}
-
 /// Why the key of a step is refused, if it is.
+#[tactic(auto, using(crate::proofs::FaultLemmas::fault_told))]
 fn key_fault(
     alloc: Global,
     groups: &Groups<'_>,
@@ -162,12 +114,12 @@ fn key_fault(
         fault ≡ key_fault (groups_value groups.now) (table_view table.now) step) }
 {
     match step {
-        StationStep::Network => network_fault(alloc, table),
-        StationStep::Code => code_fault(alloc, table),
-        StationStep::Description => description_fault(alloc, table),
+        StationStep::Network => fault_of(network_of(alloc, table)),
+        StationStep::Code => fault_of(code_of(alloc, table)),
+        StationStep::Description => fault_of(description_of(alloc, table)),
         StationStep::Capacity => Ok(capacity_of(table).err()),
         StationStep::First => Ok(first_of(table).err()),
-        StationStep::Access => access_fault(alloc, groups, table),
+        StationStep::Access => fault_of(access_of(alloc, groups, table)),
         StationStep::Table | StationStep::Codes => Ok(None),
     }
 }

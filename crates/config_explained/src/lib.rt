@@ -60,7 +60,7 @@ pub use opened::open_to_everybody;
 pub use parts::parts_of;
 pub use place::{TextPlace, line_from, place_of};
 pub use refusal::{FaultLine, RefusedConfig, RefusedEntry, cause_of};
-pub use remark::{Remark, list_remarks, remarks};
+pub use remark::{Remark, Remarked, list_remarks, remarks};
 pub use seen::seen_by;
 pub use setting::Setting;
 pub use setting_texts::{key_of, limit_of, wanted_of};

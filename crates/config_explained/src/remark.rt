@@ -8,7 +8,9 @@ ghost use Rattle.config_explained.specs.Unknown.Whose.{TheGroup, TheOption};
 ghost use Rattle.protocol.specs.Catalog.{stations_of};
 ghost use Rattle.access_list.specs.Tokens.{is_separator};
 ghost use Rattle.config_explained.specs.Remarks.{entry_remark, has_leading_ones, list_remarks, remark_line, remark_of};
-ghost use Rattle.config_explained.specs.Remarks.{remark_words, remarks_from, remarks_if, remarks_text};
+ghost use Rattle.config_explained.specs.Remarks.{is_looked_at, remark_if, remark_words, remarks_from, remarks_if};
+ghost use Rattle.config_explained.specs.Remarks.{remarks_text};
+ghost use Rattle.config_explained.specs.declared.remark.Remarked.TheVariants.{EachEntry};
 ghost use Rattle.config_explained.specs.Remarks.{station_remarks};
 ghost use Rattle.config_explained.specs.Unknown.{whose};
 
@@ -44,6 +46,27 @@ fn has_leading_ones(count: u32, mask: u32) -> bool
         return mask == ones(0);
     }
     mask == ones(count) || has_leading_ones(count - 1, mask)
+}
+
+/// Which entries are looked at.
+#[derive(Clone, Copy, Drop)]
+pub enum Remarked {
+    /// Each entry.
+    EachEntry,
+    /// Those that are not the text `0.0.0.0/0`, which looks like what it admits.
+    OddEntries,
+}
+
+impl Remarked {
+    /// Whether an entry is looked at.
+    fn includes(self, entry: &[u8]) -> bool
+        ensures { result ≡ is_looked_at self entry.now }
+    {
+        match self {
+            Remarked::EachEntry => true,
+            Remarked::OddEntries => entry != b"0.0.0.0/0".as_slice(),
+        }
+    }
 }
 
 impl Remark {
@@ -109,9 +132,32 @@ fn put_entry(text: &mut Vec<u8>, entry: &[u8], owner: Owner<'_>) -> Result<(), A
     put_line(text, entry, remark, owner)
 }
 
+/// The same, if it is looked at.
+fn put_remarked(
+    text: &mut Vec<u8>,
+    which: Remarked,
+    entry: &[u8],
+    owner: Owner<'_>,
+) -> Result<(), AllocError>
+    ensures { OnOk result (text.new.items
+        ≡ text.old.items ++ remark_if which (whose owner.entry) entry.now) }
+{
+    if which.includes(entry) {
+        put_entry(text, entry, owner)
+    } else {
+        Ok(())
+    }
+}
+
 /// The lines of a list's entries.
-fn put_list_remarks(text: &mut Vec<u8>, list: &[u8], owner: Owner<'_>) -> Result<(), AllocError>
-    ensures { OnOk result (text.new.items ≡ text.old.items ++ list_remarks (whose owner.entry) list.now) }
+fn put_list_remarks(
+    text: &mut Vec<u8>,
+    which: Remarked,
+    list: &[u8],
+    owner: Owner<'_>,
+) -> Result<(), AllocError>
+    ensures { OnOk result (text.new.items
+        ≡ text.old.items ++ list_remarks which (whose owner.entry) list.now) }
 {
     let entries = list.split(
         |byte|
@@ -119,50 +165,65 @@ fn put_list_remarks(text: &mut Vec<u8>, list: &[u8], owner: Owner<'_>) -> Result
         { is_separator(*byte) },
     );
     for entry in entries {
-        put_entry(text, entry, owner)?;
+        put_remarked(text, which, entry, owner)?;
     }
     Ok(())
 }
 
 /// The same of a list that may not be there.
-fn put_if(text: &mut Vec<u8>, list: Option<&[u8]>, owner: Owner<'_>) -> Result<(), AllocError>
+fn put_if(
+    text: &mut Vec<u8>,
+    which: Remarked,
+    list: Option<&[u8]>,
+    owner: Owner<'_>,
+) -> Result<(), AllocError>
     ensures { OnOk result (text.new.items
-        ≡ text.old.items ++ remarks_if (whose owner.entry) (option_map (λ l. l.now) list.entry)) }
+        ≡ text.old.items ++ remarks_if which (whose owner.entry) (option_map (λ l. l.now) list.entry)) }
 {
     match list {
-        Some(list) => put_list_remarks(text, list, owner),
+        Some(list) => put_list_remarks(text, which, list, owner),
         None => Ok(()),
     }
 }
 
 /// The lines of a group's list.
-fn put_group(text: &mut Vec<u8>, name: &str, value: &Value) -> Result<(), AllocError>
+fn put_group(
+    text: &mut Vec<u8>,
+    which: Remarked,
+    name: &str,
+    value: &Value,
+) -> Result<(), AllocError>
     ensures { OnOk result (text.new.items
-        ≡ text.old.items ++ remarks_if (TheGroup name.now) (as_str (view value.now))) }
+        ≡ text.old.items ++ remarks_if which (TheGroup name.now) (as_str (view value.now))) }
 {
     match value.as_str() {
-        Some(list) => put_list_remarks(text, list.as_bytes(), Owner::Group(name)),
+        Some(list) => put_list_remarks(text, which, list.as_bytes(), Owner::Group(name)),
         None => Ok(()),
     }
 }
 
 /// The lines of all groups.
-fn put_groups(text: &mut Vec<u8>, groups: &Table) -> Result<(), AllocError>
-    ensures { OnOk result (text.new.items ≡ text.old.items ++ groups_remarks (table_view groups.now)) }
+fn put_groups(text: &mut Vec<u8>, which: Remarked, groups: &Table) -> Result<(), AllocError>
+    ensures { OnOk result (text.new.items
+        ≡ text.old.items ++ groups_remarks which (table_view groups.now)) }
 {
     for (name, value) in groups.iter() {
-        put_group(text, name.as_str(), value)?;
+        put_group(text, which, name.as_str(), value)?;
     }
     Ok(())
 }
 
 /// The lines of all groups, if there are any.
-fn put_groups_if(text: &mut Vec<u8>, groups: Option<&Table>) -> Result<(), AllocError>
+fn put_groups_if(
+    text: &mut Vec<u8>,
+    which: Remarked,
+    groups: Option<&Table>,
+) -> Result<(), AllocError>
     ensures { OnOk result (text.new.items
-        ≡ text.old.items ++ groups_remarks_if (option_map (λ t. table_view t.now) groups.entry)) }
+        ≡ text.old.items ++ groups_remarks_if which (option_map (λ t. table_view t.now) groups.entry)) }
 {
     match groups {
-        Some(groups) => put_groups(text, groups),
+        Some(groups) => put_groups(text, which, groups),
         None => Ok(()),
     }
 }
@@ -170,52 +231,64 @@ fn put_groups_if(text: &mut Vec<u8>, groups: Option<&Table>) -> Result<(), Alloc
 /// The lines of a station's own list.
 fn put_station(
     text: &mut Vec<u8>,
+    which: Remarked,
     table: &Table,
     place: usize,
     station: &Station,
 ) -> Result<(), AllocError>
     requires { place < 2 ^ 63 }
     ensures { OnOk result (text.new.items
-        ≡ text.old.items ++ station_remarks (table_view table.now) place station.now.station) }
+        ≡ text.old.items ++ station_remarks which (table_view table.now) place station.now.station) }
 {
     let list = text_at(table, Step::Station(place, StationStep::Access));
-    put_if(text, list, Owner::Station(place + 1, station))
+    put_if(text, which, list, Owner::Station(place + 1, station))
 }
 
 /// The lines of all stations' own lists.
 #[tactic(auto, using(crate::proofs::RemarkLemmas::remark_lemmas))]
-fn put_stations(text: &mut Vec<u8>, stations: &[Station], table: &Table) -> Result<(), AllocError>
+fn put_stations(
+    text: &mut Vec<u8>,
+    which: Remarked,
+    stations: &[Station],
+    table: &Table,
+) -> Result<(), AllocError>
     ensures { OnOk result (text.new.items ≡ text.old.items
-        ++ remarks_from (table_view table.now) 0 (map (λ e. e.station) stations.now)) }
+        ++ remarks_from which (table_view table.now) 0 (map (λ e. e.station) stations.now)) }
 {
     for (place, station) in stations.iter().enumerate() {
-        put_station(text, table, place, station)?;
+        put_station(text, which, table, place, station)?;
     }
     Ok(())
 }
 
 /// The entries of a configuration's access lists that admit something else than their text looks like, a line each:
 /// first those of the server's list, then those of each group, by the bytes of their names, and then those of each
-/// station's own, with its number, from 1 on, and its codes. An
-/// entry is named if it admits everybody, if it is `0.0.0.0` alone, if the ones of its mask are not on the left, or if
-/// its address has bits outside its mask. Only memory can lack.
-pub fn remarks(alloc: Global, read: &ConfigText) -> Result<Vec<u8>, AllocError>
-    ensures { IfOk result (λ lines. lines.items ≡ remarks_text (keys_of read.now.text) (stations_of read.now.config)) }
+/// station's own, with its number, from 1 on, and its codes. An entry is named if it admits everybody, if it is
+/// `0.0.0.0` alone, if the ones of its mask are not on the left, or if its address has bits outside its mask; of odd
+/// entries alone, not if it is `0.0.0.0/0`. Only memory can lack.
+pub fn remarks(alloc: Global, which: Remarked, read: &ConfigText) -> Result<Vec<u8>, AllocError>
+    ensures { IfOk result (λ lines.
+        lines.items ≡ remarks_text which (keys_of read.now.text) (stations_of read.now.config)) }
 {
     let table = read.table();
     let mut lines = Vec::new(alloc);
-    put_if(&mut lines, text_at(table, Step::Access), Owner::Server)?;
-    put_groups_if(&mut lines, Groups::of(table).table())?;
-    put_stations(&mut lines, read.config().stations(), table)?;
+    put_if(
+        &mut lines,
+        which,
+        text_at(table, Step::Access),
+        Owner::Server,
+    )?;
+    put_groups_if(&mut lines, which, Groups::of(table).table())?;
+    put_stations(&mut lines, which, read.config().stations(), table)?;
     Ok(lines)
 }
 
 /// The entries of a list that an option of the command line has, as `--feed-from`, and that admit something else than
-/// their text looks like, a line each as `remarks` has them. Only memory can lack.
+/// their text looks like, a line each as `remarks` has them of each entry. Only memory can lack.
 pub fn list_remarks(alloc: Global, option: &str, list: &[u8]) -> Result<Vec<u8>, AllocError>
-    ensures { IfOk result (λ lines. lines.items ≡ list_remarks (TheOption option.now) list.now) }
+    ensures { IfOk result (λ lines. lines.items ≡ list_remarks EachEntry (TheOption option.now) list.now) }
 {
     let mut lines = Vec::new(alloc);
-    put_list_remarks(&mut lines, list, Owner::Option(option))?;
+    put_list_remarks(&mut lines, Remarked::EachEntry, list, Owner::Option(option))?;
     Ok(lines)
 }

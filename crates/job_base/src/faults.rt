@@ -1,7 +1,7 @@
 //! All faults of a configuration that is refused.
+use crate::telling::tell_lines;
 use catalog::ConfigError;
 use config_explained::{ConfigFinding, FaultLine, faults_of, finding_of};
-use shown_lines::ShownText;
 
 /// How many faults are named.
 const NAMED: usize = 64;
@@ -17,7 +17,7 @@ fn tell_fault(rt: &HostRuntime, text: &[u8], error: &ConfigError) {
         finding: &finding,
     };
     if let Ok(line) = format!(in rt.alloc(); "{line}") {
-        let _ = eprint!(rt; "{}", ShownText(line.as_str()));
+        tell_lines(rt, line.as_bytes());
     }
 }
 

@@ -37,5 +37,5 @@ pub use reasons::ReasonKeeper;
 pub use remarked::{tell_list_remarks, tell_remarks};
 pub use servers::{ServerAddress, connect, connection, server_of, unconnected};
 pub use standard_error::ErrorOutput;
-pub use telling::tell_incident;
+pub use telling::{tell_incident, tell_lines};
 pub use times::times_of;

@@ -8,10 +8,10 @@ ghost use Rattle.config_explained.specs.Unknown.{named, unknown_text};
 ghost use Rattle.protocol.specs.declared.reason.Reason.TheVariants.{Missing};
 
 use crate::inputs::config_at;
+use crate::telling::tell_lines;
 use config_explained::{ConfigText, unknown_keys};
 use incidents::{Failure, Incident};
 use protocol::reason::Reason;
-use shown_lines::ShownText;
 use std::alloc::Global;
 
 /// The lines that name the keys of a configuration's text that are not known.
@@ -45,13 +45,6 @@ pub fn refuse_unknown<'a>(path: &'a str, lines: &[u8], is_strict: bool) -> Resul
         return Err(unknown_keys_found().in_file(path));
     }
     Ok(())
-}
-
-/// Writes lines to the standard error.
-fn tell_lines(rt: &HostRuntime, lines: &[u8]) {
-    if let Ok(lines) = str::from_utf8(lines) {
-        let _ = eprint!(rt; "{}", ShownText(lines));
-    }
 }
 
 /// Names the keys of a configuration's text that are not known, a line each on the standard error. With `is_strict` it

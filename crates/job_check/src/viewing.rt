@@ -18,13 +18,12 @@ use access_list::address;
 use catalog::Config;
 use command_line::ViewOptions;
 use config_explained::{
-    ConfigText, ListOwner, Network, holder_of, holders_of, list_owner, parts_of, seen_by,
+    ConfigText, ListOwner, Network, Remarked, holder_of, holders_of, list_owner, parts_of, seen_by,
     unused_groups,
 };
 use incidents::{Failure, Incident};
-use job_base::{judged_config_at, tell_remarks, tell_unknown_keys};
+use job_base::{judged_config_at, tell_lines, tell_remarks, tell_unknown_keys};
 use protocol::reason::Reason;
-use shown_lines::ShownText;
 use sl_io::{Outer, Sink, StreamFault, write_all};
 use std::alloc::Global;
 use std::io;
@@ -154,9 +153,7 @@ fn asked_in<'a>(options: &ViewOptions<'a>) -> ViewAsked<'a> {
 /// Names the groups of a configuration that are in the list of no station, a line each on the standard error.
 fn tell_unused(rt: &HostRuntime, read: &ConfigText) {
     if let Ok(lines) = unused_groups(rt.alloc(), read) {
-        if let Ok(lines) = str::from_utf8(lines.as_slice()) {
-            let _ = eprint!(rt; "{}", ShownText(lines));
-        }
+        tell_lines(rt, lines.as_slice());
     }
 }
 
@@ -164,7 +161,7 @@ fn tell_unused(rt: &HostRuntime, read: &ConfigText) {
 fn write_all_stations(rt: &HostRuntime, read: &ConfigText) -> Result<(), StreamFault> {
     let mut out = Outer::new(io::writer(rt));
     list_holders(rt.alloc(), read, &mut out)?;
-    tell_remarks(rt, read);
+    tell_remarks(rt, Remarked::EachEntry, read);
     tell_unused(rt, read);
     Ok(())
 }

@@ -11,9 +11,11 @@ use crate::numbers::NumberFile;
 use crate::status::{StatusDoor, status_door};
 use catalog::Config;
 use command_line::ServeOptions;
-use config_explained::{ConfigText, open_to_everybody, remarks};
+use config_explained::{ConfigText, Remarked, open_to_everybody};
 use incidents::Incident;
-use job_base::{ServerAddress, checked_config_at, plain_at, server_of, tell_list_remarks};
+use job_base::{
+    ServerAddress, checked_config_at, plain_at, server_of, tell_list_remarks, tell_remarks,
+};
 use ports_socket::Admission;
 use std::alloc::Global;
 
@@ -74,9 +76,9 @@ pub struct ServedFiles<'a> {
     pub numbers: Option<Box<NumberFile<'a>>>,
 }
 
-/// Reads the files that the words name. The keys of the configuration that are not known are named, and so are entries of
-/// lists that admit something else than they look like. A configuration
-/// that is to be read again has to be a plain file. Where the words name a file of numbers, they are kept there.
+/// Reads the files that the words name. The keys of the configuration that are not known are named, and so are entries
+/// of lists that admit something else than they look like. A configuration that is to be read again has to be a plain
+/// file. Where the words name a file of numbers, they are kept there.
 pub fn served_by<'a>(
     rt: &HostRuntime,
     options: &ServeOptions<'a>,
@@ -108,32 +110,11 @@ pub fn served_by<'a>(
     })
 }
 
-/// Whether a line is of an entry that says itself that it admits everybody. What lines have of an entry are digits, dots
-/// and a slash.
-fn is_of_everybody(line: &[u8]) -> bool {
-    line.starts_with(b"seedlinkd: access 0.0.0.0/0,")
-        || line.starts_with(b"seedlinkd: access 0.0.0.0/0:")
-}
-
-/// Names the entries of a configuration's lists that admit something else than they look like, but for `0.0.0.0/0`, which
-/// looks like what it admits: a server that is open to everybody would say so of each of its stations.
-fn tell_entries(rt: &HostRuntime, read: &ConfigText) {
-    let Ok(lines) = remarks(rt.alloc(), read) else {
-        return;
-    };
-    for line in lines.as_slice().split(|byte| *byte == b'\n') {
-        if line.is_empty() || is_of_everybody(line) {
-            continue;
-        }
-        if let Ok(line) = str::from_utf8(line) {
-            let _ = eprint!(rt; "{line}\n");
-        }
-    }
-}
-
-/// Names what lists admit that they don't look like: those of the configuration, and those of the words.
+/// Names what lists admit that they don't look like: those of the configuration, and those of the words. Entries of the
+/// configuration that are `0.0.0.0/0` are not named: a server that is open to everybody would say so of each of its
+/// stations.
 fn tell_lists(rt: &HostRuntime, options: &ServeOptions<'_>, read: &ConfigText) {
-    tell_entries(rt, read);
+    tell_remarks(rt, Remarked::OddEntries, read);
     tell_list_remarks(rt, "--feed-from", options.feed_from);
     tell_list_remarks(rt, "--status-from", options.status_from);
 }

@@ -1,5 +1,5 @@
 //! A line that is told once, and again only after an hour.
-ghost use Rattle.std.specs.Prelude.{◌≡◌, [], None};
+ghost use Rattle.std.specs.Prelude.{◌≡◌, ◌⊎◌, [], None, IfSome};
 ghost use Rattle.job_serve.specs.ToldOnce.{is_due, is_hour_past};
 
 use std::alloc::Global;
@@ -44,7 +44,10 @@ impl ToldOnce {
     }
 
     /// A line is told now. Without memory for it the next one is told in any case.
-    pub fn note(&mut self, alloc: Global, line: &[u8], now: Option<u64>) {
+    pub fn note(&mut self, alloc: Global, line: &[u8], now: Option<u64>)
+        ensures line { IfSome self.new.told (λ _. self.new.line.items ≡ line.now) }
+        ensures told { self.new.told ≡ None ⊎ self.new.told ≡ now }
+    {
         self.told = None;
         if let Ok(line) = line.to_vec(alloc) {
             self.line = line;

@@ -3,26 +3,16 @@ use Rattle.std.proofs.Common.{◌≡◌, ◌∙◌, ◌<◌, ◌++◌, ◌∷◌
 use Rattle.std.proofs.Common.{sym, arith}
 use Rattle.std.proofs.lemmas.Iterator.{YieldsList}
 use Rattle.std.specs.Iterator.{Yields}
-use Rattle.std.proofs.lemmas.Iterator.Consumers.{YieldsList-turn, YieldsList-end, YieldsList-at}
+use Rattle.std.proofs.lemmas.Iterator.Consumers.{YieldsList-at}
 use Rattle.std.proofs.lemmas.Iterator.Splits.{YieldsList-from_slice_split}
 use Rattle.std.proofs.lemmas.List.{length_push, drop_all}
 use Rattle.protocol.specs.Pieces.{split}
 use Rattle.access_list.specs.Tokens.{is_separator}
 use Rattle.config_explained.specs.Opened.{networks_of}
 use Rattle.config_explained.proofs.EntryLemmas.{pieces_are}
+use Rattle.config_explained.proofs.PieceLemmas.{end_of, turn_of}
 use Rattle.config_explained.proofs.OpenedLemmas.{network_more, network_not, network_end}
 use Rattle.config_explained.proofs.opened.networks_of.Goals as goal
-
--- where the entry at hand stands, and at the end how many there were, by the steps first
-turn_of : {S A B : Type 0} {steps : S → Option A → S → Type 0} {v : A → B} {s : S} {all : List B} (xs : List A) (t : S)
-    (y : Yields steps s xs t) → (r : Option A) (u : S) (x : A) → r ≡ Some x → steps t r u
-    → (e : YieldsList steps v s all) → (length xs < length all) × (v x ≡ get_or all (length xs) (v x))
-turn_of xs t y r u x is step e = YieldsList-turn e xs t y r u x is step
-
-end_of : {S A B : Type 0} {steps : S → Option A → S → Type 0} {v : A → B} {s : S} {all : List B} (xs : List A) (t : S)
-    (y : Yields steps s xs t) → (r : Option A) (u : S) → r ≡ None → steps t r u → (e : YieldsList steps v s all)
-    → (map v xs ≡ all) × (length xs ≡ length all)
-end_of xs t y r u is step e = YieldsList-end e xs t y r u is step
 
 pub loop-entry-preserved-in-Continue-1 : goal.loop-entry-preserved-in-Continue-1
 loop-entry-preserved-in-Continue-1 c =

@@ -3,27 +3,16 @@ use Rattle.std.proofs.Common.{◌≡◌, ◌<◌, ◌++◌, List, length, get_or
 use Rattle.std.proofs.Common.{arith}
 use Rattle.std.proofs.lemmas.Iterator.{YieldsList}
 use Rattle.std.specs.Iterator.{Yields}
-use Rattle.std.proofs.lemmas.Iterator.Consumers.{YieldsList-turn, YieldsList-end, YieldsList-at}
+use Rattle.std.proofs.lemmas.Iterator.Consumers.{YieldsList-at}
 use Rattle.std.proofs.lemmas.Iterator.Splits.{YieldsList-from_slice_split}
 use Rattle.std.proofs.lemmas.List.{length_push, drop_all}
 use Rattle.protocol.specs.Pieces.{split}
 use Rattle.access_list.specs.Tokens.{is_separator}
-use Rattle.config_explained.specs.Remarks.{entry_remark, list_remarks}
+use Rattle.config_explained.specs.Remarks.{list_remarks, remark_if}
 use Rattle.config_explained.specs.Unknown.{whose}
 use Rattle.config_explained.proofs.EntryLemmas.{pieces_are}
-use Rattle.config_explained.proofs.RemarkLemmas.{entry_more, entries_end}
+use Rattle.config_explained.proofs.PieceLemmas.{end_of, piece_more, pieces_end, turn_of}
 use Rattle.config_explained.proofs.remark.put_list_remarks.Goals as goal
-
--- where the entry at hand stands, and at the end how many there were, by the steps first
-turn_of : {S A B : Type 0} {steps : S → Option A → S → Type 0} {v : A → B} {s : S} {all : List B} (xs : List A) (t : S)
-    (y : Yields steps s xs t) → (r : Option A) (u : S) (x : A) → r ≡ Some x → steps t r u
-    → (e : YieldsList steps v s all) → (length xs < length all) × (v x ≡ get_or all (length xs) (v x))
-turn_of xs t y r u x is step e = YieldsList-turn e xs t y r u x is step
-
-end_of : {S A B : Type 0} {steps : S → Option A → S → Type 0} {v : A → B} {s : S} {all : List B} (xs : List A) (t : S)
-    (y : Yields steps s xs t) → (r : Option A) (u : S) → r ≡ None → steps t r u → (e : YieldsList steps v s all)
-    → (map v xs ≡ all) × (length xs ≡ length all)
-end_of xs t y r u is step e = YieldsList-end e xs t y r u is step
 
 pub loop-entry-preserved : goal.loop-entry-preserved
 loop-entry-preserved c =
@@ -32,12 +21,12 @@ loop-entry-preserved c =
     (YieldsList-at c.into_iter-entry-iterator.ensures.into_iter_gives
     (YieldsList-from_slice_split _ is_separator c.args.list.now c.split-entries.ensures.rest
     c.split-entries.ensures.done c.split-entries.ensures.closure (λ x b q k. search (rules, tests))))) in
-    let o = whose c.args.owner in
-    let made : c.put_entry.new.text.items ≡ c.loop-entry.text.items ++ entry_remark o c.in-Some.entry.now =
-    first_of (search rules, grind (arith, common_steps, c.put_entry.ensures, c.in_ok-put_entry.was)) in
+    let f = remark_if c.args.which (whose c.args.owner) in
+    let made : c.put_remarked.new.text.items ≡ c.loop-entry.text.items ++ f c.in-Some.entry.now =
+    first_of (search rules, grind (arith, common_steps, c.put_remarked.ensures, c.in_ok-put_remarked.was)) in
     rw (length_push c.loop-entry.yielded c.in-Some.entry, made)
-    (entry_more o (split is_separator c.args.list.now) (length c.loop-entry.yielded) c.in-Some.entry.now
-    (c.args.text.now.items ++ list_remarks o c.args.list.now) c.loop-entry.text.items turn.0 turn.1
+    (piece_more f (split is_separator c.args.list.now) (length c.loop-entry.yielded) c.in-Some.entry.now
+    (c.args.text.now.items ++ list_remarks c.args.which (whose c.args.owner) c.args.list.now) c.loop-entry.text.items turn.0 turn.1
     c.loop-entry.invariant)
 
 pub returns : goal.returns
@@ -47,8 +36,8 @@ returns c =
     (YieldsList-at c.into_iter-entry-iterator.ensures.into_iter_gives
     (YieldsList-from_slice_split _ is_separator c.args.list.now c.split-entries.ensures.rest
     c.split-entries.ensures.done c.split-entries.ensures.closure (λ x b q k. search (rules, tests))))) in
-    let o = whose c.args.owner in
-    entries_end o (split is_separator c.args.list.now) (length c.loop-entry.yielded)
-    (c.args.text.now.items ++ list_remarks o c.args.list.now) c.loop-entry.text.items
+    let f = remark_if c.args.which (whose c.args.owner) in
+    pieces_end f (split is_separator c.args.list.now) (length c.loop-entry.yielded)
+    (c.args.text.now.items ++ list_remarks c.args.which (whose c.args.owner) c.args.list.now) c.loop-entry.text.items
     (drop_all (length c.loop-entry.yielded) (split is_separator c.args.list.now) (omega (arith, end.1)))
     c.loop-entry.invariant

@@ -6,5 +6,5 @@ use Rattle.config_explained.proofs.remark.put_stations.Given as goal
 
 abbrev pub invariant-loop-place : goal.invariant-loop-place
 invariant-loop-place l =
-    l.fn.text.items ++ remarks_from (table_view l.table) 0 (map (λ e. e.station) l.stations)
-    ≡ l.text.items ++ remarks_left (table_view l.table) l.stations l.place
+    l.fn.text.items ++ remarks_from l.which (table_view l.table) 0 (map (λ e. e.station) l.stations)
+    ≡ l.text.items ++ remarks_left l.which (table_view l.table) l.stations l.place
