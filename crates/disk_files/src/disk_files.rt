@@ -2,17 +2,16 @@
 ghost use Rattle.std.specs.Prelude.{◌≡◌, ◌<◌, IfOk, None, Some, length};
 ghost use Rattle.disk_files.specs.Opened.{name_at};
 
-use crate::folders::{folder_of, make_folders, sync_folder};
 use crate::new_files::NewFiles;
 use crate::open_file::{OpenFile, identity_of};
 use crate::open_files::{NamedFile, OpenFiles};
 use continued_files::{FolderFault, RecordFiles};
+use files::{folder_of, make_folders, milliseconds, plain_at, sync_folder_of};
 use protocol::limits::RECORD;
 use std::alloc::Global;
 use std::fs::{self, File, Metadata, OpenOptions};
 use std::io::{self, ErrorKind};
 use std::num::NonZeroUsize;
-use std::rt::Clock;
 use std::thread;
 use std::time::Duration;
 
@@ -67,25 +66,6 @@ fn no_memory() -> io::Error {
     io::Error::from(ErrorKind::OutOfMemory)
 }
 
-/// Milliseconds of the system's clock; 0 where it can't be read.
-fn milliseconds(rt: &HostRuntime) -> u64 {
-    match rt.monotonic() {
-        Ok(now) => u64::try_from(now.as_millis()).unwrap_or(u64::MAX),
-        Err(_) => 0,
-    }
-}
-
-/// What the system says of a file: none if it is not there. One that is no plain file is refused, and not opened: a
-/// pipe would wait for a reader.
-fn plain_at(rt: &HostRuntime, path: &str) -> io::Result<Option<Metadata>> {
-    match fs::metadata(rt, path) {
-        Ok(found) if found.is_file() => Ok(Some(found)),
-        Ok(_) => Err(io::Error::from(ErrorKind::InvalidInput)),
-        Err(reason) if reason.kind() == ErrorKind::NotFound => Ok(None),
-        Err(reason) => Err(reason),
-    }
-}
-
 /// Whether a path names nothing.
 fn is_gone(rt: &HostRuntime, path: &str) -> bool {
     match fs::metadata(rt, path) {
@@ -107,7 +87,7 @@ fn opened_at(rt: &HostRuntime, path: &str) -> io::Result<File> {
 fn made_at(rt: &HostRuntime, path: &str, lasts: bool) -> io::Result<File> {
     match opened_at(rt, path) {
         Err(reason) if reason.kind() == ErrorKind::NotFound => {
-            let folder = folder_of(path).unwrap_or(".");
+            let folder = folder_of(path);
             if lasts {
                 make_folders(rt, folder)?;
             } else {
@@ -275,7 +255,7 @@ impl<'a> DiskFiles<'a> {
         }
         let file = self.open_at(path.as_str())?;
         if is_new && self.lasts {
-            sync_folder(self.rt, folder_of(path.as_str()).unwrap_or("."));
+            sync_folder_of(self.rt, path.as_str());
         }
         let opened = OpenFile::new(file, self.now, self.piece)?;
         self.keep_open(name, path, opened)

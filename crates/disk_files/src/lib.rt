@@ -2,13 +2,10 @@
 #![tactic(auto)]
 
 mod disk_files;
-mod folders;
 mod new_files;
 mod open_file;
 mod open_files;
 mod output;
 
 pub use disk_files::{DiskFiles, FileFailure, FilePlace};
-pub use folders::make_folders;
-pub use open_file::is_named;
 pub use output::{ContinuedOutput, ONE_FILE};

@@ -13,14 +13,6 @@ pub(crate) fn identity_of(metadata: &Metadata) -> Identity {
     (metadata.dev(), metadata.ino())
 }
 
-/// Whether a path still names a file that is open.
-pub fn is_named(rt: &HostRuntime, file: &File, path: &str) -> bool {
-    let (Ok(open), Ok(found)) = (file.metadata(), fs::metadata(rt, path)) else {
-        return false;
-    };
-    open.dev() == found.dev() && open.ino() == found.ino()
-}
-
 /// A file of records that is open.
 #[derive(Drop)]
 pub(crate) struct OpenFile {

@@ -2,6 +2,7 @@
 use crate::places::not_plain;
 use std::fs::{self, File, OpenOptions, TryLockError};
 use std::io::{self, ErrorKind};
+use std::os::unix::fs::MetadataExt;
 
 /// Why a file is not locked.
 #[derive(Drop)]
@@ -26,6 +27,15 @@ fn opened_at(rt: &HostRuntime, path: &str) -> io::Result<File> {
         Err(reason) => return Err(reason),
     }
     options.open(rt, path)
+}
+
+/// Whether a path still names a file that is open. A lock is one on a file: once its path names another one, or none,
+/// another process can lock what stands there.
+pub fn is_named(rt: &HostRuntime, file: &File, path: &str) -> bool {
+    let (Ok(open), Ok(found)) = (file.metadata(), fs::metadata(rt, path)) else {
+        return false;
+    };
+    open.dev() == found.dev() && open.ino() == found.ino()
 }
 
 /// The lock of a file, which holds until it is closed.

@@ -1,5 +1,5 @@
 //! Files whose text is replaced whole.
-use crate::folders::sync_folder;
+use crate::folders::sync_folder_of;
 use std::fs::{self, File, OpenOptions};
 use std::io::{self, ErrorKind, Write};
 
@@ -29,6 +29,6 @@ pub fn replace(rt: &HostRuntime, new_path: &str, path: &str, text: &[u8]) -> io:
     file.write_all(text)?;
     file.sync_all()?;
     fs::rename(rt, new_path, path)?;
-    sync_folder(rt, path);
+    sync_folder_of(rt, path);
     Ok(())
 }

@@ -2,8 +2,7 @@
 //!
 //! A lock is one on a file and not on its path: once that names another file, or none, another reader can lock what
 //! stands there. So it is looked at once a second whether the path still names the file.
-use disk_files::is_named;
-use files::{LockFault, lock_at};
+use files::{LockFault, is_named, lock_at};
 use std::fs::File;
 use std::io::{self, ErrorKind};
 

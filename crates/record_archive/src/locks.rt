@@ -5,9 +5,9 @@
 //! reader can lock the one that is made in its place. So it has to be looked, again and again, whether the paths still
 //! name the files.
 use crate::stations::StationCodes;
-use disk_files::{is_named, make_folders};
+use files::{LockFault, is_named, lock_at, make_folders};
 use std::alloc::Global;
-use std::fs::{self, File, OpenOptions, TryLockError};
+use std::fs::File;
 use std::io::{self, ErrorKind};
 
 /// Why nothing can be put below a folder.
@@ -43,30 +43,12 @@ fn lock_path(alloc: Global, top: &str, codes: &StationCodes) -> Option<String> {
     }
 }
 
-/// Refuses a file that is there and is no plain file, before it is opened: a pipe would wait for a reader.
-fn plain_or_new(rt: &HostRuntime, path: &str) -> io::Result<()> {
-    match fs::metadata(rt, path) {
-        Ok(found) if !found.is_file() => Err(io::Error::from(ErrorKind::InvalidInput)),
-        _ => Ok(()),
-    }
-}
-
-/// A file that is opened to be locked.
-fn opened_at(rt: &HostRuntime, path: &str) -> io::Result<File> {
-    plain_or_new(rt, path)?;
-    OpenOptions::new().write(true).create(true).open(rt, path)
-}
-
 /// Locks a file.
 fn locked_at(rt: &HostRuntime, path: &str) -> Result<File, TopFault> {
-    let file = match opened_at(rt, path) {
-        Ok(file) => file,
-        Err(reason) => return Err(TopFault::Unopened(reason)),
-    };
-    match file.try_lock() {
-        Ok(()) => Ok(file),
-        Err(TryLockError::WouldBlock) => Err(TopFault::Locked),
-        Err(TryLockError::Error(reason)) => Err(TopFault::Unopened(reason)),
+    match lock_at(rt, path) {
+        Ok(file) => Ok(file),
+        Err(LockFault::Busy) => Err(TopFault::Locked),
+        Err(LockFault::Refused(reason)) => Err(TopFault::Unopened(reason)),
     }
 }
 
