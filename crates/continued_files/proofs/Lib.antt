@@ -1,5 +1,4 @@
 mod RunLemmas
-mod MemoryLemmas
 pub mod TailLemmas
 mod KnownLemmas
 mod StepLemmas

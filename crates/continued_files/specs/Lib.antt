@@ -1,7 +1,6 @@
 pub mod Files
 pub mod Lengths
 pub mod Puts
-pub mod MemoryRecords
 pub mod Places
 pub mod Tails
 pub mod Hashes

@@ -9,11 +9,9 @@ ghost use Rattle.std.specs.declared.option.Option.{Option};
 ghost use Rattle.error_lines.specs.Devices.{Takes};
 
 mod lines;
-mod memory_device;
 mod standard_error;
 
 pub use lines::{ErrorLine, ErrorLines};
-pub use memory_device::MemoryDevice;
 pub use standard_error::StandardError;
 
 /// Where lines go.

@@ -5,10 +5,8 @@ pub mod Rounds
 pub mod Stops
 pub mod Whole
 pub mod Keeping
-pub mod Keepers
 pub mod Calls
 pub mod Following
 pub mod Visits
 pub mod Breaks
-pub mod MemoryCalls
 pub mod Takes

@@ -2,5 +2,4 @@ pub mod Paths
 pub mod Stations
 pub mod Places
 pub mod Archives
-pub mod Stores
 pub mod Apart

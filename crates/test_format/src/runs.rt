@@ -1,7 +1,8 @@
 //! Readers that go on one after the other in an archive in memory, each of them stopped somewhere: each record
 //! stands in its file once.
 use crate::worked::{HEAD, record_of};
-use continued_files::{ContinuedFiles, FileLength, MemoryFiles, NamedRecord, Unnamed};
+use continued_files::{ContinuedFiles, FileLength, Unnamed};
+use memory_doubles::{MemoryFiles, NamedRecord};
 use mseed_header::read;
 use record_archive::{Archive, StationCodes};
 use std::alloc::{AllocError, Global};

@@ -2,11 +2,10 @@
 ghost use Rattle.std.specs.Prelude.{◌≡◌, ◌++◌, ◌∷◌, [], map, OnErr, OnOk, Some};
 ghost use Rattle.sl_io.specs.Counts.{CountsFailure};
 ghost use Rattle.record_archive.specs.Archives.{Put, PutsNothing, PutsOne};
-ghost use Rattle.record_archive.specs.Stores.{stored};
+ghost use Rattle.memory_doubles.specs.Stores.{stored};
 
-use crate::folders::Folders;
-use crate::place::Place;
 use continued_files::FolderFault;
+use record_archive::{Folders, Place};
 use std::alloc::{AllocError, Global};
 
 /// A record that was put, and where.

@@ -1,8 +1,8 @@
 use Rattle.std.proofs.Common.{◌≡◌, ◌≤◌, ◌∙◌, ◌∷◌, ◌++◌, [], ap, map, subst, sym}
 use Rattle.std.proofs.lemmas.List.{length-map}
-use Rattle.continued_files.specs.MemoryRecords.{NamedValue, named}
-use Rattle.continued_files.proofs.MemoryLemmas.{adds-one, keeps-synced}
-use Rattle.continued_files.proofs.memory_files.MemoryFilesRecordFiles.add.Goals as goal
+use Rattle.memory_doubles.specs.MemoryRecords.{NamedValue, named}
+use Rattle.memory_doubles.proofs.MemoryLemmas.{adds-one, keeps-synced}
+use Rattle.memory_doubles.proofs.memory_files.MemoryFilesRecordFiles.add.Goals as goal
 
 -- the record that is added
 abbrev one : (c : goal.In-Ok) → NamedValue

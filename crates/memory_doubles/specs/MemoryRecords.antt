@@ -1,7 +1,7 @@
 -- What files of records in memory tell.
 use Rattle.std.specs.Prelude.{ℕ, List, [], ◌∷◌, if◌then◌else◌}
 use Rattle.std.specs.Str.{bytes_eq}
-use Rattle.continued_files.specs.declared.memory_files.NamedRecord.{NamedRecord}
+use Rattle.memory_doubles.specs.declared.memory_files.NamedRecord.{NamedRecord}
 
 -- a record, and the name of its file
 pub record NamedValue : Type 0 where

@@ -2,9 +2,9 @@
 use Rattle.std.specs.Prelude.{List, Option, Some, None, map, if◌then◌else◌}
 use Rattle.reader_run.specs.Keeping.{Deed}
 use Rattle.reader_run.specs.Keeping.Deed.{Flushed, Kept}
-use Rattle.reader_run.specs.declared.memory_keeper.Done.{Done}
-use Rattle.reader_run.specs.declared.memory_keeper.Done.TheVariants as code
-use Rattle.reader_run.specs.declared.memory_keeper.MemoryKeeper.{MemoryKeeper}
+use Rattle.memory_doubles.specs.declared.memory_keeper.Done.{Done}
+use Rattle.memory_doubles.specs.declared.memory_keeper.Done.TheVariants as code
+use Rattle.memory_doubles.specs.declared.memory_keeper.MemoryKeeper.{MemoryKeeper}
 
 -- what was done
 abbrev pub deed_value : Done → Deed

@@ -1,10 +1,9 @@
 //! Servers in memory.
 ghost use Rattle.std.specs.Prelude.{◌≡◌, Some, [], ◌∷◌};
 ghost use Rattle.reader_run.specs.Keeping.{Tells};
-ghost use Rattle.reader_run.specs.MemoryCalls.{called_value, told};
+ghost use Rattle.memory_doubles.specs.MemoryCalls.{called_value, told};
 
-use crate::fault::ListingFault;
-use crate::servers::Servers;
+use reader_run::{ListingFault, Servers};
 use sl_io::{MemorySink, MemorySource};
 use std::alloc::Global;
 

@@ -1,8 +1,9 @@
 //! A device in memory.
 ghost use Rattle.std.specs.Prelude.{◌≡◌, ◌≤◌, ◌⊎◌, Some, [], drop, length, min, take};
-ghost use Rattle.error_lines.specs.Devices.{Takes, room_in};
+ghost use Rattle.error_lines.specs.Devices.{Takes};
+ghost use Rattle.memory_doubles.specs.Rooms.{room_in};
 
-use crate::Device;
+use error_lines::Device;
 use std::alloc::Global;
 
 /// A device in memory, that tells its bytes. At each call it takes at most as many as the next number of a list says,

@@ -1,6 +1,6 @@
 -- What folders in memory tell.
 use Rattle.record_archive.specs.Archives.{Put}
-use Rattle.record_archive.specs.declared.memory_folders.Stored.{Stored}
+use Rattle.memory_doubles.specs.declared.memory_folders.Stored.{Stored}
 
 -- what was put
 abbrev pub stored : Stored → Put

@@ -4,10 +4,10 @@ use Rattle.sl_io.specs.declared.memory_source.MemorySource.{MemorySource}
 use Rattle.sl_io.specs.declared.memory_sink.MemorySink.{MemorySink}
 use Rattle.reader_run.specs.Calls.{Call, ConnectionValue, connection}
 use Rattle.reader_run.specs.Calls.Call.{Connects, Fails, PassesOver, Closes}
-use Rattle.reader_run.specs.declared.memory_servers.Called.{Called}
-use Rattle.reader_run.specs.declared.memory_servers.Called.TheVariants as code
-use Rattle.reader_run.specs.declared.memory_servers.MemoryServers.{MemoryServers}
-use Rattle.reader_run.specs.declared.memory_servers.NoServer.{NoServer}
+use Rattle.memory_doubles.specs.declared.memory_servers.Called.{Called}
+use Rattle.memory_doubles.specs.declared.memory_servers.Called.TheVariants as code
+use Rattle.memory_doubles.specs.declared.memory_servers.MemoryServers.{MemoryServers}
+use Rattle.memory_doubles.specs.declared.memory_servers.NoServer.{NoServer}
 
 -- both sides of a connection in memory, at which no read fails and no write is empty
 abbrev pub connection_value : MemorySource → MemorySink → ConnectionValue

@@ -3,10 +3,9 @@ ghost use Rattle.std.specs.Prelude.{◌≡◌, ◌∷◌, [], IfOk, OnErr, OnOk,
 ghost use Rattle.sl_io.specs.Counts.{CountsFailure};
 ghost use Rattle.reader_run.specs.Keeping.{Tells};
 ghost use Rattle.reader_run.specs.Keeping.Deed.{Flushed as IsFlushed, Kept as IsKept};
-ghost use Rattle.reader_run.specs.Keepers.{deed_value, told};
+ghost use Rattle.memory_doubles.specs.Keepers.{deed_value, told};
 
-use crate::gathered::Gathered;
-use crate::keeping::{KeepFault, Keeper};
+use reader_run::{Gathered, KeepFault, Keeper};
 use sl_io::MemorySink;
 use slreader::Tally;
 use std::alloc::Global;

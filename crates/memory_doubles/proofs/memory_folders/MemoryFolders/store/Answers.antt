@@ -1,7 +1,7 @@
 use Rattle.std.proofs.Common.{◌∙◌, ℕ, List, [], ◌∷◌, ◌++◌, ap, ap₂, map}
 use Rattle.std.proofs.lemmas.List.{map-append}
-use Rattle.record_archive.specs.Stores.{stored}
-use Rattle.record_archive.proofs.memory_folders.MemoryFolders.store.Goals as goal
+use Rattle.memory_doubles.specs.Stores.{stored}
+use Rattle.memory_doubles.proofs.memory_folders.MemoryFolders.store.Goals as goal
 
 pub returns-clause-kept : goal.returns-clause-kept
 returns-clause-kept c =

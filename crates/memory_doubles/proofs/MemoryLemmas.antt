@@ -6,7 +6,7 @@ use Rattle.std.specs.Str.{bytes_eq}
 use Rattle.std.proofs.lemmas.List.{append-nil, take-append-le}
 use Rattle.std.proofs.lemmas.Slice.Eq.{bytes_eq-Decides}
 use Rattle.continued_files.specs.Files.{AddsTo, Told}
-use Rattle.continued_files.specs.MemoryRecords.{NamedValue, records_of}
+use Rattle.memory_doubles.specs.MemoryRecords.{NamedValue, records_of}
 
 -- what is told of some records
 abbrev told : List NamedValue → Told (List (List ℕ))

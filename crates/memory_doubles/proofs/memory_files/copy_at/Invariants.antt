@@ -1,7 +1,7 @@
 use Rattle.std.proofs.Common.{◌≡◌, ◌+◌, drop, length, map}
-use Rattle.continued_files.specs.MemoryRecords.{named, records_of}
+use Rattle.memory_doubles.specs.MemoryRecords.{named, records_of}
 use Rattle.continued_files.specs.Places.{record_at}
-use Rattle.continued_files.proofs.memory_files.copy_at.Given as goal
+use Rattle.memory_doubles.proofs.memory_files.copy_at.Given as goal
 
 -- The record is that at the place that is left, of those that are left.
 abbrev pub invariant-loop-one : goal.invariant-loop-one

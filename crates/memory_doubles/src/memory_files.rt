@@ -2,10 +2,10 @@
 ghost use Rattle.std.specs.Prelude.{◌≡◌, ◌<◌, ◌≤◌, ◌++◌, ◌∷◌, [], ℕ, List, length, map, take, true, false, IfOk};
 ghost use Rattle.std.specs.Prelude.{OnErr, OnOk, Some};
 ghost use Rattle.continued_files.specs.Files.{Tells, TellsSame, AddsTo, MakesSafe};
-ghost use Rattle.continued_files.specs.MemoryRecords.{named, records_of};
+ghost use Rattle.memory_doubles.specs.MemoryRecords.{named, records_of};
 ghost use Rattle.continued_files.specs.Places.{record_at};
 
-use crate::files::{FolderFault, RecordFiles};
+use continued_files::{FolderFault, RecordFiles};
 use std::alloc::{AllocError, Global};
 
 /// A record of a file, and the file's name.

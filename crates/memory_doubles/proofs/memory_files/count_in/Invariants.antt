@@ -1,6 +1,6 @@
 use Rattle.std.proofs.Common.{◌≡◌, ◌+◌, ◌≤◌, drop, length, map}
-use Rattle.continued_files.specs.MemoryRecords.{named, records_of}
-use Rattle.continued_files.proofs.memory_files.count_in.Given as goal
+use Rattle.memory_doubles.specs.MemoryRecords.{named, records_of}
+use Rattle.memory_doubles.proofs.memory_files.count_in.Given as goal
 
 -- What was counted, with what is left, is the whole.
 abbrev pub invariant-loop-one : goal.invariant-loop-one
