@@ -1,11 +1,18 @@
 -- Decisions that are said.
-use Rattle.std.proofs.Common.{◌≡◌, ℕ, List, [], ◌∷◌, ◌++◌, Option, Some, None, refl, sym, ap, subst, ◌∙◌, append_assoc}
+use Rattle.std.proofs.Common.{◌≡◌, ℕ, List, [], ◌∷◌, ◌++◌, Option, Some, None, refl, sym, ap, ap₂, subst, ◌∙◌, append_assoc}
 use Rattle.std.proofs.lemmas.List.{append-nil}
 use Rattle.ports.specs.Decisions.{Decides}
 use Rattle.ports.specs.declared.decisions.Decision.{Decision}
 use Rattle.server_core.specs.ServerValues.{ServerValue}
 use Rattle.event_loop.specs.declared.seat.Seat.{Seat}
+use Rattle.protocol.specs.Catalog.{Config}
+use Rattle.session_state.specs.declared.choices.Entry.{Entry}
 use Rattle.event_loop.specs.Decided.{cut_of, cuts_in}
+use Rattle.ports.specs.declared.decisions.AskedCodes.{AskedCodes}
+use Rattle.ports.specs.declared.decisions.Decision.TheVariants.{Reads}
+use Rattle.ports.specs.declared.decisions.Mode.{Mode}
+use Rattle.sl_lines.specs.declared.actions.Action.{Action}
+use Rattle.event_loop.specs.Telling.{asked_said, mode_of, place_codes, request_said, requests_said}
 
 -- nothing was said
 pub decides-none : (d : Option (List (ℕ × Decision))) → Decides d d []
@@ -25,6 +32,21 @@ pub decides-then : (a b c : Option (List (ℕ × Decision))) (xs ys all : List (
     → Decides b c ys → all ≡ xs ++ ys → Decides a c all
 decides-then a b c xs ys all first then is =
     subst (λ l. Decides a c l) (sym is) (both-said a b c xs ys first then)
+
+-- what is said of a station of which something is asked
+pub request-told : (config : Config) (port : ℕ) (e : Entry) (action : Action) (codes : AskedCodes) (m : Mode)
+    → Some action ≡ e.action → codes ≡ place_codes config e.station → m ≡ mode_of action
+    → (port, Reads codes m) ∷ [] ≡ request_said config port e
+request-told config port e action codes m asks is how =
+    ap₂ (λ (x : AskedCodes) (y : Mode). (port, Reads x y) ∷ []) is how ∙ ap (asked_said config port e.station) asks
+
+-- what is said of one request more
+pub requests-more : (config : Config) (port : ℕ) (es : List Entry) (e : Entry)
+    → requests_said config port (es ++ e ∷ []) ≡ requests_said config port es ++ request_said config port e
+requests-more config port [] e = append-nil (request_said config port e)
+requests-more config port (x ∷ xs) e =
+    ap (λ l. request_said config port x ++ l) (requests-more config port xs e)
+    ∙ sym (append_assoc (request_said config port x) (requests_said config port xs) (request_said config port e))
 
 -- what is said of one seat more
 pub cuts-more : (server : ServerValue) (ss : List Seat) (s : Seat)

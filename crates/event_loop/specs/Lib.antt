@@ -1,4 +1,5 @@
 pub mod Decided
+pub mod Telling
 pub mod Deeds
 pub mod Passes
 pub mod Feeding

@@ -7,6 +7,7 @@ mod hearing;
 mod passes;
 pub mod seat;
 pub mod seats;
+mod telling;
 mod turning;
 mod waking;
 

@@ -26,6 +26,7 @@ ghost use Rattle.event_loop.specs.Offering.{Hands, HandsPieces, IfTook, IfWrites
 
 use crate::deciding::end;
 use crate::seat::{Role, Seat};
+use crate::telling::{go_on, receive, took};
 use ports::{Ending, Got, PortFault, Ports, Put};
 use server_core::{Client, Filled, Gone, Offer, Server};
 use sl_packet::PACKET;
@@ -75,7 +76,7 @@ fn read_piece<P: Ports>(
 {
     match ports.read(seat.port, piece) {
         Ok(Got::Bytes(count)) => {
-            let _ = server.receive(client, &piece[..count]);
+            receive(server, ports, seat.port, client, &piece[..count]);
             Onward::On
         }
         Ok(Got::Later) => {
@@ -296,7 +297,7 @@ fn write_on<P: Ports>(
     }
     match hand(server, ports, client, seat, filled.found) {
         Handing::Took(count) => Next::Write {
-            found: server.go_on(client, count),
+            found: go_on(server, ports, seat.port, client, count),
             made: 1,
         },
         Handing::Stopped => Next::Stop,
@@ -323,7 +324,7 @@ fn write_last<P: Ports>(
 {
     match hand(server, ports, client, seat, found) {
         Handing::Took(count) => {
-            let _ = server.took(client, count);
+            took(server, ports, seat.port, client, count);
             Onward::On
         }
         Handing::Stopped => Onward::Stop,

@@ -63,6 +63,23 @@ pub enum RecordRefusal {
     Other(Reason),
 }
 
+/// The codes of a station that a client asks for: the first eight bytes of each, with spaces behind a shorter one. They
+/// may have any bytes but spaces and line ends.
+#[derive(Clone, Copy, Drop)]
+pub struct AskedCodes {
+    pub station: [u8; 8],
+    /// None if the client named no network.
+    pub network: Option<[u8; 8]>,
+}
+
+/// What a client asks of a station (SeedLink 3, DATA, FETCH and TIME).
+#[derive(Clone, Copy, Drop)]
+pub enum Mode {
+    Data,
+    Fetch,
+    Time,
+}
+
 /// What is decided of a port.
 #[derive(Clone, Copy, Drop)]
 pub enum Decision {
@@ -74,6 +91,13 @@ pub enum Decision {
     Ends(Ending),
     /// A record of 512 bytes that it gave is refused.
     Refused(RecordRefusal),
+    /// STATION of its client is answered ERROR: the client sees no station with these codes.
+    NoStation(AskedCodes),
+    /// The transfer of its client that begins next is to have records of this station. It is said of each that something
+    /// is asked of, in the order in which the client named them.
+    Reads(AskedCodes, Mode),
+    /// A transfer of its client begins, with the stations of which that was said.
+    Begins,
     /// Its client is cut: a new configuration shows its address something else than the client sees. The port is shut
     /// once it took what waits.
     Cut,

@@ -18,7 +18,9 @@ mod decisions;
 mod present;
 
 pub use answers::{Got, Happening, PortFault, Put};
-pub use decisions::{AwayReason, Decision, Ending, Party, RecordCodes, RecordRefusal};
+pub use decisions::{
+    AskedCodes, AwayReason, Decision, Ending, Mode, Party, RecordCodes, RecordRefusal,
+};
 pub use present::PresentClient;
 
 /// Where clients and feeds join, each at a port of its own number. No port joins twice. The count of failures is a
@@ -93,6 +95,12 @@ pub trait Ports {
         ensures calls { calls self.new ≡ calls self.old }
         ensures failures { failures self.new ≡ failures self.old }
         ensures decides { Decides (decided self.old) (decided self.new) ((port, decision) ∷ []) };
+
+    /// Whether anybody hears what is said of a client's negotiation (NoStation, Reads, Begins). If nobody does, it need
+    /// not be said.
+    fn listens(&self) -> bool {
+        false
+    }
 
     /// The client at a port, if one is there and the ports follow who is. Those that follow nobody know none.
     fn present(&self, _port: u64) -> Option<PresentClient> {

@@ -6,7 +6,8 @@ use Rattle.ports.specs.declared.answers.Got.{Got}
 use Rattle.ports.specs.declared.answers.Got.TheVariants.{Bytes}
 use Rattle.ports.specs.declared.answers.PortFault.{PortFault}
 use Rattle.ports.specs.declared.decisions.Decision.{Decision}
-use Rattle.ports.specs.declared.decisions.Decision.TheVariants.{Cut, LetIn, TurnedAway, Ends, Refused}
+use Rattle.ports.specs.declared.decisions.Decision.TheVariants.{Begins, Cut, LetIn, NoStation, Reads, TurnedAway, Ends}
+use Rattle.ports.specs.declared.decisions.Decision.TheVariants.{Refused}
 use Rattle.ports.specs.declared.decisions.Party.{Party}
 use Rattle.ports.specs.declared.decisions.Party.TheVariants.{Client, Feed}
 use Rattle.ports.specs.declared.present.PresentClient.{PresentClient}
@@ -36,6 +37,9 @@ decided_visitors port (LetIn party) now v = with_visitor (fresh port party now) 
 decided_visitors port (TurnedAway reason) now v = v
 decided_visitors port (Ends ending) now v = record v { present = without port v.present }
 decided_visitors port (Refused refusal) now v = counted_at port refusing v
+decided_visitors port (NoStation codes) now v = v
+decided_visitors port (Reads codes mode) now v = v
+decided_visitors port Begins now v = v
 decided_visitors port Cut now v = counted_at port cutting v
 
 -- what is noted of whoever was at a port, whose connection came from an address: of a client the bytes that it took and
@@ -62,6 +66,9 @@ decided_notes port (TurnedAway reason) address v = visit.Away (record { address 
 decided_notes port (Ends ending) address v = over_if address (find (is_at port) v.present)
 decided_notes port (Refused refusal) address v =
     visit.Refused port (records_given (find (is_at port) v.present)) refusal ∷ []
+decided_notes port (NoStation codes) address v = visit.NoStation port address codes ∷ []
+decided_notes port (Reads codes mode) address v = visit.Reads port address codes mode ∷ []
+decided_notes port Begins address v = visit.Begins port address ∷ []
 decided_notes port Cut address v =
     if is_uncut (find (is_at port) v.present) then visit.Cut port address ∷ [] else []
 

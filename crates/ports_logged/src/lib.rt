@@ -60,6 +60,11 @@ pub trait Journal {
         ensures notes { noted self.new ≡ noted self.old }
         ensures passed { Passes (passed self.old) (passed self.new) (sent ∷ []) };
 
+    /// Whether it wants to hear of the stations that clients ask for.
+    fn listens(&self) -> bool {
+        false
+    }
+
     /// The ports have said what happened, for which they may have waited. The time, in milliseconds since the server
     /// began, if the journal looks at a clock, and else any.
     fn heard(&mut self) -> u64

@@ -126,6 +126,18 @@ fn decide<J: Journal>(
                 refusal,
             });
         }
+        Decision::NoStation(codes) => journal.note(Visit::NoStation {
+            port,
+            address,
+            codes,
+        }),
+        Decision::Reads(codes, mode) => journal.note(Visit::Reads {
+            port,
+            address,
+            codes,
+            mode,
+        }),
+        Decision::Begins => journal.note(Visit::Begins { port, address }),
         Decision::Cut => cut(visitors, journal, port, address),
     }
 }
@@ -302,6 +314,11 @@ impl<P: Doors, J: Journal> Ports for LoggedPorts<P, J> {
             address,
             self.time,
         );
+    }
+
+    /// The journal does, or not.
+    fn listens(&self) -> bool {
+        self.journal.listens()
     }
 
     /// By the one table of who is there, and the inner ports, which know each connection's address.

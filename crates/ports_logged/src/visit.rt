@@ -4,7 +4,7 @@
 //! that what can't be written is dropped and counted in one place. The lines of visits and those of reports and faults
 //! are written through one cell, since what counts the lines that were dropped, and knows whether the last one was cut,
 //! must be one.
-use ports::{AwayReason, RecordCodes, RecordRefusal};
+use ports::{AskedCodes, AwayReason, Mode, RecordCodes, RecordRefusal};
 use std::fmt::{self, Display, Formatter, Write};
 use std::net::Ipv4Addr;
 
@@ -33,6 +33,24 @@ pub enum Visit {
     },
     /// A client or a feed was turned away.
     Away(Away),
+    /// STATION of a client was answered ERROR: it sees no station with these codes.
+    NoStation {
+        port: u64,
+        address: Ipv4Addr,
+        codes: AskedCodes,
+    },
+    /// The transfer of a client that begins next is to have records of this station.
+    Reads {
+        port: u64,
+        address: Ipv4Addr,
+        codes: AskedCodes,
+        mode: Mode,
+    },
+    /// A transfer of a client began, with the stations that were noted before.
+    Begins {
+        port: u64,
+        address: Ipv4Addr,
+    },
     /// A new configuration cut a client, for the first time.
     Cut {
         port: u64,
@@ -91,6 +109,31 @@ impl Display for ShownCodes {
     }
 }
 
+/// The codes of a station that a client asks for, as `GE WLF`; as `WLF` if it named no network. A byte that doesn't
+/// print is shown as `?`.
+#[derive(Clone, Copy, Drop)]
+struct ShownAsked(AskedCodes);
+
+impl Display for ShownAsked {
+    fn fmt<W: Write>(&self, f: &mut Formatter<W>) -> fmt::Result {
+        let codes = &self.0;
+        if let Some(network) = &codes.network {
+            put_code(f, network)?;
+            f.write_char(' ')?;
+        }
+        put_code(f, &codes.station)
+    }
+}
+
+/// What a client asks of a station, as `DATA`.
+fn mode_name(mode: Mode) -> &'static str {
+    match mode {
+        Mode::Data => "DATA",
+        Mode::Fetch => "FETCH",
+        Mode::Time => "TIME",
+    }
+}
+
 /// Writes why a record of a feed was refused.
 fn put_refusal<W: Write>(
     f: &mut Formatter<W>,
@@ -118,8 +161,8 @@ fn put_refusal<W: Write>(
 }
 
 impl Display for Visit {
-    /// As `open 17 10.0.0.7`, `away 10.0.0.7 max_connections`, `cut 17 10.0.0.7`, `close 17 10.0.0.7 bytes 52000 cut`,
-    /// `feed 3 10.0.0.2`, `feed 3 refused 6 Length, first at record 17`, `feed 3 refused GE WLF, an unknown station,
+    /// As `open 17 10.0.0.7`, `away 10.0.0.7 max_connections`, `refused 17 10.0.0.7 STATION GE WLF`,
+    /// `reads 17 10.0.0.7 GE APE DATA`, `cut 17 10.0.0.7`, `close 17 10.0.0.7 bytes 52000 cut`, `feed 3 10.0.0.2`, `feed 3 refused 6 Length, first at record 17`, `feed 3 refused GE WLF, an unknown station,
     /// first at record 2` and `feed 3 over 10.0.0.2 records 120 refused 2`.
     fn fmt<W: Write>(&self, f: &mut Formatter<W>) -> fmt::Result {
         match self {
@@ -128,6 +171,25 @@ impl Display for Visit {
                 let Away { address, reason } = away;
                 write!(f, "away {address} {reason}")
             }
+            Visit::NoStation {
+                port,
+                address,
+                codes,
+            } => {
+                let codes = ShownAsked(*codes);
+                write!(f, "refused {port} {address} STATION {codes}")
+            }
+            Visit::Reads {
+                port,
+                address,
+                codes,
+                mode,
+            } => {
+                let codes = ShownAsked(*codes);
+                let mode = mode_name(*mode);
+                write!(f, "reads {port} {address} {codes} {mode}")
+            }
+            Visit::Begins { port, address } => write!(f, "begins {port} {address}"),
             Visit::Cut { port, address } => write!(f, "cut {port} {address}"),
             Visit::Close {
                 port,

@@ -11,6 +11,7 @@ pub mod RowLemmas
 pub mod MarkLemmas
 pub mod SpareLemmas
 mod ReloadLemmas
+mod NewsLemmas
 mod CurrentLemmas
 mod AmongLemmas
 mod FillLemmas

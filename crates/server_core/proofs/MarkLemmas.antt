@@ -144,7 +144,7 @@ module _ (config : Config) (rings : RingsValue) (old new : Marks) (before after 
         (are.free other (sym (updates.others other apart) ∙ none)));
   }
 
-keeps-itself : (At : ℕ → Type 0) (marks : Marks) → Keeps At marks marks
+pub keeps-itself : (At : ℕ → Type 0) (marks : Marks) → Keeps At marks marks
 keeps-itself At marks = record {
   marked = λ slot at. refl;
   sending = λ slot at. refl;

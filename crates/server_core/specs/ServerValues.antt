@@ -8,6 +8,7 @@ use Rattle.protocol.specs.Client.{Client, after_take, offered}
 use Rattle.protocol.specs.History.{Arrival}
 use Rattle.protocol.specs.World.{Event, World, Connection, config_after, world_after}
 use Rattle.station_ring.specs.HeldRecords.{RingsValue, holdings_of}
+use Rattle.session_state.specs.declared.news.News.{News}
 use Rattle.session_state.specs.declared.session.State.TheVariants.{Starting}
 use Rattle.session_state.specs.Sessions.{SessionValue, HasPlaces, client_in, session_view}
 use Rattle.transfer.specs.Cursors.{ArePassed}
@@ -24,6 +25,15 @@ pub record ServerValue : Type 0 where
 -- the mark of the k-th client, while that is open
 abbrev pub mark_at : ServerValue → ℕ → Option Bool
 mark_at server k = option_map (λ s. slice_index_or server.marks k false) (slice_index_or server.sessions k None)
+
+-- what a session has to tell of its client's negotiation, if there is one
+abbrev pub news_of : Option SessionValue → Option News
+news_of None = None
+news_of (Some s) = s.news
+
+-- the same of the k-th client, while that is open
+abbrev pub news_at : ServerValue → ℕ → Option News
+news_at server k = news_of (slice_index_or server.sessions k None)
 
 -- So many of the bytes that wait for the k-th client, one at least, can be taken.
 abbrev pub MayTake : ServerValue → (k count : ℕ) → Type 0

@@ -19,7 +19,7 @@ use crate::marks::Marks;
 use crate::reviewing::review_all;
 use crate::slots;
 use catalog::Config;
-use session_state::{Session, State};
+use session_state::{News, Session, State};
 use sl_packet::Seq;
 use station_ring::Rings;
 use std::alloc::{AllocError, Global};
@@ -62,7 +62,7 @@ impl Server {
     ghost use Rattle.session_state.specs.Sessions.{SessionValue};
     ghost use Rattle.station_ring.specs.declared.held.Summary.{Summary};
     ghost use Rattle.station_ring.specs.HeldRecords.{holdings_of};
-    ghost use Rattle.server_core.specs.ServerValues.{MayTake, StandsAt, mark_at};
+    ghost use Rattle.server_core.specs.ServerValues.{MayTake, StandsAt, mark_at, news_at};
     ghost use Rattle.server_core.specs.Marks.{IsAmong, IsSpared, LeavesOthers, MarksThose, OpensNext};
     ghost use Rattle.server_core.specs.Filling.{IsFilled, IsOffered};
     ghost use Rattle.server_core.specs.Reloads.{is_cut_at};
@@ -215,6 +215,29 @@ impl Server {
                 slot,
             ),
             None => Err(Gone),
+        }
+    }
+
+    /// What there is to tell of a client's negotiation since this was asked last, if anything: the last of it. A call
+    /// that reads what the client sent (`receive`, `took`, `go_on`) leaves at most one thing more, so that whoever asks
+    /// after each of them hears of all. It is no event: the server stands for what it stood for, with the same marks.
+    pub fn take_news(&mut self, client: &Client) -> Option<News>
+        ensures news { result ≡ news_at self.old client.now }
+        ensures taken { news_at self.new client.now ≡ None }
+        ensures stands { (config : ProtocolConfig) (w : World) → StandsAt self.old config w →
+            StandsAt self.new config w }
+        ensures marks { self.new.marks ≡ self.old.marks }
+        ensures others { LeavesOthers client.now self.old self.new }
+    {
+        match self.clients.slot_of(client) {
+            Some(slot) => slots::take_news_in(
+                &self.config,
+                &self.rings,
+                &mut self.clients.slots,
+                &self.marks,
+                slot,
+            ),
+            None => None,
         }
     }
 

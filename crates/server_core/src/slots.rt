@@ -17,14 +17,14 @@ ghost use Rattle.server_core.specs.Reloads.{HasHistory};
 ghost use Rattle.server_core.specs.Marks.{AreMarked, Elsewhere, IsIdle, Keeps, KeepsRequests};
 ghost use Rattle.server_core.specs.declared.client.Offer.TheVariants.{Idle};
 ghost use Rattle.server_core.specs.ServerValues.{AreSettled, HoldsOf, IsSettled, SlotGoesOn, StayOpen, client_of_open};
-ghost use Rattle.server_core.specs.ServerValues.{goes_on, handing, open_client, taking};
+ghost use Rattle.server_core.specs.ServerValues.{goes_on, handing, news_of, open_client, taking};
 ghost use Rattle.server_core.specs.Handing.{HandsPackets};
 
 use crate::client::{Filled, Gone, Offer, ReceiveRefusal};
 use crate::filling::hand_packets;
 use crate::marks::Marks;
 use catalog::Config;
-use session_state::{Session, Settled, State};
+use session_state::{News, Session, Settled, State};
 use slab::Slab;
 use station_ring::Rings;
 use transfer::{choose, finds, start};
@@ -300,6 +300,32 @@ pub fn took_in(
             Ok(())
         }
         None => Err(Gone),
+    }
+}
+
+/// What there is to tell of a client's negotiation since this was asked last, if anything: the last of it.
+pub fn take_news_in(
+    config: &Config,
+    rings: &Rings,
+    slots: &mut Slab<Session>,
+    marks: &Marks,
+    slot: usize,
+) -> Option<News>
+    requires settled { AreSettled config.now rings.now slots.old }
+    requires marked { AreMarked config.now rings.now marks.now slots.old }
+    ensures news { result ≡ news_of (get slots.old slot) }
+    ensures changed { (h : List Arrival) → SlotGoesOn config.now h slots.old slots.new slot (λ v c. c) }
+    ensures taken { news_of (get slots.new slot) ≡ None }
+    ensures settled { AreSettled config.now rings.now slots.new }
+    ensures marked { AreMarked config.now rings.now marks.now slots.new }
+    ensures kept { StayOpen slots.old slots.new }
+{
+    let _ = config;
+    let _ = rings;
+    let _ = marks;
+    match slots.get_mut(slot) {
+        Some(session) => session.take_news(),
+        None => None,
     }
 }
 

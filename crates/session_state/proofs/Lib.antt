@@ -6,6 +6,7 @@ pub mod ModeLemmas
 pub mod ChoiceLemmas
 pub mod AskLemmas
 pub mod LineLemmas
+mod NewsLemmas
 pub mod SettleLemmas
 pub mod ReceiveLemmas
 pub mod TookLemmas

@@ -15,11 +15,15 @@ use Rattle.protocol.specs.Client.State.{Ending as ClientEnding}
 use Rattle.protocol.proofs.FoundLemmas.{both}
 use Rattle.catalog.specs.Places.{Seen}
 use Rattle.session_state.specs.NamedValues.{ModeValue}
+use Rattle.session_state.specs.declared.news.AskedStation.{AskedStation}
+use Rattle.session_state.specs.declared.news.News.{News}
+use Rattle.session_state.specs.NewsValues.{missed_by, missed_in, missed_of, news_after, news_in}
 use Rattle.session_state.specs.declared.negotiation.Change.{Change}
 use Rattle.session_state.specs.declared.negotiation.Change.TheVariants.{Done, Refused, Starts}
 use Rattle.session_state.specs.declared.session.reading.Instruction.{Instruction}
 use Rattle.session_state.specs.declared.session.reading.Instruction.TheVariants.{Nothing}
-use Rattle.session_state.specs.declared.session.State.TheVariants.{Negotiating, Listing, Transfer, Ending}
+use Rattle.session_state.specs.declared.session.State.TheVariants.{Negotiating, Listing, Starting, Transfer, Ending}
+use Rattle.session_state.specs.declared.session.State.{State}
 use Rattle.session_state.specs.Choices.{negotiated_in, chosen_of, request_in}
 use Rattle.session_state.specs.Changes.{outcome_after}
 use Rattle.session_state.specs.Asking.{outcome_by, outcome_of_lines, is_bye, says_bye, is_leaving}
@@ -27,8 +31,8 @@ use Rattle.session_state.specs.Sessions.{SessionValue, client_in, session_view, 
 use Rattle.session_state.proofs.CursorLemmas.{change-elsewhere}
 
 -- a session that negotiates while nothing waits
-abbrev pub reading : Seen → ModeValue → Line → List ℕ → Option ℕ → SessionValue
-reading places mode l u looked = record {
+abbrev pub reading : Seen → ModeValue → Line → List ℕ → Option ℕ → Option News → SessionValue
+reading places mode l u looked news = record {
   places = places;
   mode = mode;
   state = Negotiating;
@@ -36,10 +40,11 @@ reading places mode l u looked = record {
   unread = u;
   waiting = [];
   looked = looked;
+  news = news;
 }
 
 is_reading : (a : SessionValue) → a.state ≡ Negotiating → a.waiting ≡ []
-    → a ≡ reading a.places a.mode a.open_line a.unread a.looked
+    → a ≡ reading a.places a.mode a.open_line a.unread a.looked a.news
 is_reading a state none = ap (λ t. record a { state = t }) state
     ∙ ap (λ w. record a { state = Negotiating; waiting = w }) none
 
@@ -67,14 +72,14 @@ leaves config h a r state none e = ap (client_in config h) e
 
 -- a session in which a change was made
 change-follows : (config : Config) (h : List Arrival) (places : Seen) (mode new : ModeValue) (l : Line) (u : List ℕ)
-    (looked : Option ℕ) (change : Change)
-    → client_in config h (after_change (record (reading places mode l u looked) { mode = new }) change)
-    ≡ follow (session_view config (reading places mode l u looked)) h
-    (client_in config h (reading places mode l u looked))
+    (looked : Option ℕ) (news : Option News) (change : Change)
+    → client_in config h (after_change (record (reading places mode l u looked news) { mode = new }) change)
+    ≡ follow (session_view config (reading places mode l u looked news)) h
+    (client_in config h (reading places mode l u looked news))
     (negotiated_in config mode) (outcome_after change (negotiated_in config new))
-change-follows config h places mode new l u looked Done = refl
-change-follows config h places mode new l u looked Refused = refl
-change-follows config h places mode new l u looked Starts = refl
+change-follows config h places mode new l u looked news Done = refl
+change-follows config h places mode new l u looked news Refused = refl
+change-follows config h places mode new l u looked news Starts = refl
 
 pub changes : (config : Config) (h : List Arrival) (a r : SessionValue) (mode : ModeValue) (change : Change)
     (outcome : Outcome) → a.state ≡ Negotiating → a.waiting ≡ [] → r ≡ after_change (record a { mode = mode }) change
@@ -85,7 +90,7 @@ changes config h a r mode change outcome state none e same =
     ap (client_in config h) e
     ∙ ap (λ (x : SessionValue). client_in config h (after_change (record x { mode = mode }) change))
     (is_reading a state none)
-    ∙ change-follows config h a.places a.mode mode a.open_line a.unread a.looked change
+    ∙ change-follows config h a.places a.mode mode a.open_line a.unread a.looked a.news change
     ∙ ap (λ (x : SessionValue). follow (session_view config x) h (client_in config h x) (negotiated_in config a.mode)
     (outcome_after change (negotiated_in config mode))) (sym (is_reading a state none))
     ∙ ap (follow (session_view config a) h (client_in config h a) (negotiated_in config a.mode)) same
@@ -100,7 +105,22 @@ change-unread m Done = refl
 change-unread m Refused = refl
 change-unread m Starts = refl
 
-pub ruleset answer_lemmas = (silent, said, lists, leaves, changes, change-places, change-unread, change-elsewhere)
+pub change-news : (m : SessionValue) (change : Change) → (after_change m change).news ≡ m.news
+change-news m Done = refl
+change-news m Refused = refl
+change-news m Starts = refl
+
+pub ruleset answer_lemmas = (
+  silent,
+  said,
+  lists,
+  leaves,
+  changes,
+  change-places,
+  change-unread,
+  change-elsewhere,
+  change-news,
+)
 
 -- A byte that ends a line is read as the line's command, also where the line is empty; another byte changes the open
 -- line alone.
@@ -122,17 +142,64 @@ pub reads_byte : (config : Config) (h : List Arrival) (a n r : SessionValue) (in
     → client_in config h r ≡ read_byte (session_view config a) h b (client_in config h a)
 reads_byte config h a n r instruction b state none line answers same =
     let a_is = is_reading a state none in
-    let n_is : n ≡ reading a.places a.mode (open_after a.open_line (b ∷ [])) a.unread a.looked = line
+    let n_is : n ≡ reading a.places a.mode (open_after a.open_line (b ∷ [])) a.unread a.looked a.news
+    = line
     ∙ ap (λ (x : SessionValue). record x { open_line = open_after a.open_line (b ∷ []) }) a_is in
     answers
     ∙ ap (λ (x : SessionValue). follow (session_view config x) h (client_in config h x) (negotiated_in config x.mode)
     (outcome_by config (session_view config x) (negotiated_in config x.mode) instruction)) n_is
     ∙ ap
     (follow (session_view config a) h
-    (client_in config h (reading a.places a.mode (open_after a.open_line (b ∷ [])) a.unread a.looked))
+    (client_in config h (reading a.places a.mode (open_after a.open_line (b ∷ [])) a.unread a.looked a.news))
     (negotiated_in config a.mode)) (sym (same (negotiated_in config a.mode)))
     ∙ sym (read_byte-lines (session_view config a) h a.open_line (negotiated_in config a.mode) a.unread b)
     ∙ ap (λ (x : SessionValue). read_byte (session_view config a) h b (client_in config h x)) (sym a_is)
+
+pub reads_news : (config : Config) (a n r : SessionValue) (instruction : Instruction) (b : ℕ)
+    → n ≡ record a { open_line = open_after a.open_line (b ∷ []) }
+    → r.news ≡ news_after n.news (missed_of instruction)
+    → missed_in (session_view config a) (cut_from a.open_line (b ∷ [])) ≡ missed_of instruction
+    → r.news ≡ news_after a.news (missed_in (session_view config a) (cut_from a.open_line (b ∷ [])))
+reads_news config a n r instruction b line told missed =
+    told ∙ ap (λ (x : SessionValue). news_after x.news (missed_of instruction)) line
+    ∙ ap (news_after a.news) (sym missed)
+
+pub ruleset read_lemmas = (reads_byte, reads_news)
+
+-- what there is to tell once a byte was read, by the state
+module _ (config : Config) (h : List Arrival) (a : SessionValue) (lines : List Line) (x : Option News) where
+  pub news-negotiating : a.state ≡ Negotiating → x ≡ news_after a.news (missed_in (session_view config a) lines)
+      → x ≡ news_in (session_view config a) (client_in config h a).state lines a.news
+  news-negotiating state told =
+      told ∙ ap (λ t. news_in (session_view config a) (client_in config h (record a { state = t })).state lines a.news)
+      (sym state)
+
+  pub news-elsewhere : (t : State) → a.state ≡ t
+      → a.news ≡ news_in (session_view config a) (client_in config h (record a { state = t })).state lines a.news
+      → x ≡ a.news → x ≡ news_in (session_view config a) (client_in config h a).state lines a.news
+  news-elsewhere t state still same =
+      same
+      ∙ (still
+      ∙ ap (λ u. news_in (session_view config a) (client_in config h (record a { state = u })).state lines a.news)
+      (sym state))
+
+  pub news-listing : (made : ℕ) → a.state ≡ Listing made → x ≡ a.news
+      → x ≡ news_in (session_view config a) (client_in config h a).state lines a.news
+  news-listing made state same = news-elsewhere (Listing made) state refl same
+
+  pub news-starting : a.state ≡ Starting → x ≡ a.news
+      → x ≡ news_in (session_view config a) (client_in config h a).state lines a.news
+  news-starting state same = news-elsewhere Starting state refl same
+
+  pub news-transfer : (next : ℕ) → a.state ≡ Transfer next → x ≡ a.news
+      → x ≡ news_in (session_view config a) (client_in config h a).state lines a.news
+  news-transfer next state same = news-elsewhere (Transfer next) state refl same
+
+  pub news-ending : a.state ≡ Ending → x ≡ a.news
+      → x ≡ news_in (session_view config a) (client_in config h a).state lines a.news
+  news-ending state same = news-elsewhere Ending state refl same
+
+pub ruleset byte_lemmas = (news-negotiating, news-listing, news-starting, news-transfer, news-ending)
 
 -- In a transfer a line that says BYE ends it, and nothing else acts.
 abbrev left_if : Bool → Client → Client
@@ -220,7 +287,14 @@ pub says_line : (lines : List Line) (line : Line) (instruction : Instruction) �
     → is_bye (command_of line) ≡ is_leaving instruction → says_bye lines ≡ is_leaving instruction
 says_line lines line instruction e same = ap says_bye (sym e) ∙ same
 
-pub ruleset ask_lemmas = (asked_none, asked_line, says_none, says_line)
+pub missed_none : (v : View) (lines : List Line) → [] ≡ lines → missed_in v lines ≡ missed_of Nothing
+missed_none v lines e = ap (missed_in v) (sym e)
+
+pub missed_line : (v : View) (lines : List Line) (line : Line) (instruction : Instruction) → line ∷ [] ≡ lines
+    → missed_by v (command_of line) ≡ missed_of instruction → missed_in v lines ≡ missed_of instruction
+missed_line v lines line instruction e same = ap (missed_in v) (sym e) ∙ same
+
+pub ruleset ask_lemmas = (asked_none, asked_line, says_none, says_line, missed_none, missed_line)
 
 pub no_bytes : (ws : List ℕ) → is_nothing ws ≡ true → ws ≡ []
 no_bytes [] e = refl

@@ -10,6 +10,8 @@ use Rattle.protocol.specs.Client.{Client, received, read_on, is_ending, request_
 use Rattle.protocol.specs.Client.State.{Transfer as ClientTransfer}
 use Rattle.protocol.proofs.UnreadLemmas.{read_on-unread}
 use Rattle.sl_lines.specs.declared.actions.Action.{Action}
+use Rattle.session_state.specs.declared.news.News.{News}
+use Rattle.session_state.specs.declared.news.News.TheVariants.{Begins}
 use Rattle.session_state.specs.NamedValues.{Choice}
 use Rattle.session_state.specs.NamedValues.{ModeValue}
 use Rattle.session_state.specs.NamedValues.ModeValue.{Uni, Multi}
@@ -17,6 +19,8 @@ use Rattle.session_state.specs.declared.session.State.TheVariants.{Starting, Tra
 use Rattle.session_state.specs.declared.session.Settled.{Settled}
 use Rattle.session_state.specs.Choices.{choices_in, chosen_of, request_in}
 use Rattle.session_state.specs.Sessions.{SessionValue, client_in, session_view, Comes, HasFirst, HasFirsts}
+use Rattle.session_state.specs.NewsValues.{news_on, news_received}
+use Rattle.session_state.proofs.NewsLemmas.{news-unread}
 
 pub comes-to : (settled : Settled) (config : Config) (h : List Arrival) (s : SessionValue) (c d : Client) → c ≡ d
     → Comes settled config h s c → Comes settled config h s d
@@ -79,13 +83,29 @@ begun-state config h a (Multi n) all =
     (requests-begin config h n.choices all)
 
 pub starts : (config : Config) (h : List Arrival) (a t : SessionValue) → a.state ≡ Starting
-    → t ≡ record a { state = Transfer 0; looked = None } → HasFirsts config h a
+    → t ≡ record a { state = Transfer 0; looked = None; news = Some Begins } → HasFirsts config h a
     → client_in config h t ≡ client_in config h a
 starts config h a t state turned firsts =
     ap (client_in config h) turned ∙ sym (begun-state config h a a.mode firsts)
     ∙ ap (λ x. client_in config h (record a { state = x })) (sym state)
 
 pub ruleset start_lemmas = (starts)
+
+-- what there is to tell once bytes came
+pub received-news : (config : Config) (h : List Arrival) (bytes : List ℕ) (a n r : SessionValue)
+    → is_ending (client_in config h a).state ≡ false → n ≡ record a { unread = a.unread ++ bytes }
+    → r.news ≡ news_on (session_view config n) h n.unread (client_in config h n) n.news
+    → r.news ≡ news_received (session_view config a) h bytes (client_in config h a) a.news
+received-news config h bytes a n r open_ put told =
+    told
+    ∙ (ap (λ (s : SessionValue). news_on (session_view config s) h s.unread (client_in config h s) s.news) put
+    ∙ news-unread (session_view config a) h (a.unread ++ bytes) (a.unread ++ bytes) (client_in config h a) a.news
+    ∙ sym (rw open_))
+
+pub ending-news : (config : Config) (h : List Arrival) (bytes : List ℕ) (a : SessionValue)
+    → is_ending (client_in config h a).state ≡ true
+    → a.news ≡ news_received (session_view config a) h bytes (client_in config h a) a.news
+ending-news config h bytes a ends = rw ends
 
 -- A session in its end is not about to start.
 pub ending-settled : (config : Config) (a : SessionValue) (ends : Bool) → ends ≡ is_ending (client_in config [] a).state

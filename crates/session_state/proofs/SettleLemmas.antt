@@ -1,10 +1,10 @@
 -- What a session does, step by step, is what its client does.
 use Rattle.std.proofs.Common.{◌≡◌, ◌≢◌, ℕ, true, false, zero, suc, List, [], ◌∷◌, length, take, drop, refl, sym, ap}
 use Rattle.std.proofs.Common.{◌∙◌, arith}
-use Rattle.std.proofs.Common.{nat_lt}
+use Rattle.std.proofs.Common.{nat_lt, Option}
 use Rattle.std.specs.List.{list_any, before_first, position_or_len}
 use Rattle.std.proofs.lemmas.Bool.{or_parts}
-use Rattle.protocol.specs.Lines.{is_line_end, joined, open_after}
+use Rattle.protocol.specs.Lines.{cut_from, is_line_end, joined, open_after}
 use Rattle.protocol.specs.Catalog.{Config, View}
 use Rattle.protocol.specs.History.{Arrival}
 use Rattle.protocol.specs.Client.{Client, reads, read_byte, read_on}
@@ -17,7 +17,10 @@ use Rattle.session_state.specs.declared.session.Settled.TheVariants.{Rest, Start
 use Rattle.session_state.specs.Sessions.{SessionValue, ReadsOnAs, client_in, session_view, kept_unread, Comes}
 use Rattle.session_state.specs.Sessions.{KeepsTransfer, text_taken}
 use Rattle.session_state.specs.Sessions.{never_starts}
+use Rattle.session_state.specs.declared.news.News.{News}
+use Rattle.session_state.specs.NewsValues.{news_in, news_on}
 use Rattle.session_state.proofs.CursorLemmas.{keeps-apart, keeps-then}
+use Rattle.session_state.proofs.NewsLemmas.{is_past, news-run, news-step, news-unread, past-news}
 
 -- a session that has nothing unread, or that may not read
 pub read_on-nothing : (config : Config) (v : View) (h : List Arrival) (s : SessionValue)
@@ -60,14 +63,20 @@ three : (f : Seen → List ℕ → Client → Client) (p p' : Seen) (u u' : List
     → f p u c ≡ f p' u' c'
 three f p p' u u' c c' a b d = rw (a, b, d)
 
+four : (f : Seen → List ℕ → Client → Option News → Option News) (p p' : Seen) (u u' : List ℕ) (c c' : Client)
+    (x x' : Option News) → p ≡ p' → u ≡ u' → c ≡ c' → x ≡ x' → f p u c x ≡ f p' u' c' x'
+four f p p' u u' c c' x x' a b d e = rw (a, b, d, e)
+
 -- one more byte is read
 pub settle-step : (config : Config) (a n r : SessionValue) (b : ℕ) → a.unread ≡ b ∷ n.unread
     → n ≡ record a { unread = n.unread }
     → ((h : List Arrival) → client_in config h r ≡ read_byte (session_view config n) h b (client_in config h n))
     → r.places ≡ n.places → r.unread ≡ n.unread → (never_starts n.state ≡ true → never_starts r.state ≡ true)
-    → KeepsTransfer n r → ((h : List Arrival) → reads (client_in config h a).state a.waiting ≡ true)
+    → KeepsTransfer n r
+    → ((h : List Arrival) → r.news ≡ news_in (session_view config n) (client_in config h n).state
+    (cut_from n.open_line (b ∷ [])) n.news) → ((h : List Arrival) → reads (client_in config h a).state a.waiting ≡ true)
     → (first : SessionValue) → ReadsOnAs config a first → ReadsOnAs config r first
-settle-step config a n r b byte rest client places unread stays kept may first so_far =
+settle-step config a n r b byte rest client places unread stays kept told may first so_far =
     record {
       same = λ h.
           three (λ q u c. read_on (view_in config q) h u c) r.places n.places r.unread n.unread (client_in config h r)
@@ -84,6 +93,18 @@ settle-step config a n r b byte rest client places unread stays kept may first s
           (keeps-then a n r
           (keeps-apart a n (ap (λ (s : SessionValue). s.state) rest) (ap (λ (s : SessionValue). s.mode) rest)
           (ap (λ (s : SessionValue). s.looked) rest)) kept);
+      news = λ h.
+          four (λ q u c news. news_on (view_in config q) h u c news) r.places n.places r.unread n.unread
+          (client_in config h r) (read_byte (session_view config n) h b (client_in config h n)) r.news
+          (news_in (session_view config n) (client_in config h n).state (cut_from n.open_line (b ∷ [])) n.news) places
+          unread (client h) (told h)
+          ∙ ap
+          (λ (s : SessionValue). news_on (session_view config s) h s.unread
+          (read_byte (session_view config s) h b (client_in config h s))
+          (news_in (session_view config s) (client_in config h s).state (cut_from s.open_line (b ∷ [])) s.news)) rest
+          ∙ news-step (session_view config a) h b n.unread (client_in config h a) a.news (may h)
+          ∙ ap (λ u. news_on (session_view config a) h u (client_in config h a) a.news) (sym byte)
+          ∙ so_far.news h;
     }
 
 -- bytes of which none ends a line join the open line
@@ -114,6 +135,14 @@ settle-text config a n taken none may = record {
   kept =
       keeps-apart a n (ap (λ (s : SessionValue). s.state) taken) (ap (λ (s : SessionValue). s.mode) taken)
       (ap (λ (s : SessionValue). s.looked) taken);
+  news = λ h.
+      let k = position_or_len is_line_end a.unread in
+      let v = session_view config a in
+      let c = client_in config h a in
+      ap (λ (s : SessionValue). news_on (session_view config s) h s.unread (client_in config h s) s.news) taken
+      ∙ news-unread v h (drop k a.unread) (drop k a.unread)
+      (record c { open_line = open_after c.open_line (take k a.unread) }) a.news
+      ∙ news-run v h k a.unread c a.news (may h) none;
 }
 
 -- what a session comes to that read on as one that reads on as the first
@@ -124,6 +153,7 @@ reads-then config now between first late early = record {
   places = late.places ∙ early.places;
   stays = λ e. late.stays (early.stays e);
   kept = keeps-then first between now early.kept late.kept;
+  news = λ h. late.news h ∙ early.news h;
 }
 
 -- what a session comes to that has read what it may
@@ -143,6 +173,44 @@ settles config h a d first Start start rest kept done so_far =
       ap (λ (s : SessionValue). read_on (session_view config s) h s.unread (client_in config h s)) d_is
           ∙ so_far.same h,
     )
+
+-- what a session has to tell that has read what it may
+pub settles-news : (config : Config) (h : List Arrival) (a d first : SessionValue)
+    → d ≡ record a { unread = kept_unread a.state a.unread }
+    → (a.state ≢ Starting → news_on (session_view config a) h a.unread (client_in config h a) a.news ≡ a.news)
+    → ReadsOnAs config a first
+    → d.news ≡ news_on (session_view config first) h first.unread (client_in config h first) first.news
+settles-news config h a d first kept done so_far =
+    ap (λ (s : SessionValue). s.news) kept ∙ sym (nothing_more a.state refl) ∙ so_far.news h
+  where
+    nothing_more : (t : State) → a.state ≡ t
+        → news_on (session_view config a) h a.unread (client_in config h a) a.news ≡ a.news
+    nothing_more Negotiating e = done (λ q. absurd (let x : Negotiating ≡ Starting = sym e ∙ q in cc))
+    nothing_more (Listing made) e = done (λ q. absurd (let x : Listing made ≡ Starting = sym e ∙ q in cc))
+    nothing_more Starting e =
+        past-news (session_view config a) h a.unread (client_in config h a) a.news
+        (ap (λ t. is_past (client_in config h (record a { state = t })).state) e)
+    nothing_more (Transfer q) e = done (λ p. absurd (let x : Transfer q ≡ Starting = sym e ∙ p in cc))
+    nothing_more Ending e = done (λ q. absurd (let x : Ending ≡ Starting = sym e ∙ q in cc))
+
+-- Nothing more is told by a session that has nothing unread, or that may not read.
+pub news-nothing : (config : Config) (h : List Arrival) (s : SessionValue) → nat_lt 0 (length s.unread) ≡ false
+    → news_on (session_view config s) h s.unread (client_in config h s) s.news ≡ s.news
+news-nothing config h s e = nothing s.unread e
+  where
+    nothing : (u : List ℕ) → nat_lt 0 (length u) ≡ false
+        → news_on (session_view config s) h u (client_in config h s) s.news ≡ s.news
+    nothing [] e = refl
+    nothing (b ∷ u) e = absurd (grind arith)
+
+pub news-stopped : (config : Config) (h : List Arrival) (s : SessionValue)
+    → reads (client_in config h s).state s.waiting ≡ false
+    → news_on (session_view config s) h s.unread (client_in config h s) s.news ≡ s.news
+news-stopped config h s e = stopped s.unread
+  where
+    stopped : (u : List ℕ) → news_on (session_view config s) h u (client_in config h s) s.news ≡ s.news
+    stopped [] = refl
+    stopped (b ∷ u) = rw e
 
 pub settles-kept : (config : Config) (a d first : SessionValue) → d ≡ record a { unread = kept_unread a.state a.unread }
     → ReadsOnAs config a first → KeepsTransfer first d

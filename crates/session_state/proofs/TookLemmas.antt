@@ -19,6 +19,8 @@ use Rattle.session_state.specs.declared.session.State.TheVariants.{Negotiating a
 use Rattle.session_state.specs.declared.session.State.TheVariants.{Starting as Begins, Transfer as Transfers}
 use Rattle.session_state.specs.declared.session.State.TheVariants.{Ending as Ends}
 use Rattle.session_state.specs.declared.session.Settled.{Settled}
+use Rattle.session_state.specs.declared.news.News.{News}
+use Rattle.session_state.specs.NewsValues.{news_left, news_on, news_taken}
 use Rattle.session_state.specs.Choices.{negotiated_in}
 use Rattle.session_state.specs.Sessions.{SessionValue, client_in, session_view, listed_in, state_in, with_line}
 use Rattle.session_state.specs.Sessions.{line_made, Comes}
@@ -97,6 +99,39 @@ took-waiting config h a s n some fits skip left =
     ap (client_in config h) skip ∙ left_waiting (session_view config a) h (client_in config h a)
     (drop n a.waiting) still ∙ sym (after_take-left (session_view config a) h (client_in config h a) n some fits)
 
+-- what there is to tell once bytes that waited were handed
+pub took-news : (config : Config) (h : List Arrival) (a s e r : SessionValue) (n : ℕ)
+    → s ≡ record a { waiting = drop n a.waiting } → is_nothing s.waiting ≡ true
+    → e ≡ record s { state = listed_in s.places s.state }
+    → r.news ≡ news_on (session_view config e) h e.unread (client_in config h e) e.news
+    → r.news ≡ news_taken (session_view config a) h (client_in config h a) n a.news
+took-news config h a s e r n skip empty ends told =
+    let none : drop n a.waiting ≡ [] = ap (λ (x : SessionValue). x.waiting) (sym skip) ∙ no_bytes s.waiting empty in
+    let s_is : s ≡ record a { waiting = [] } = skip ∙ ap (λ w. record a { waiting = w }) none in
+    let e_is : e ≡ record a { state = listed_in a.places a.state; waiting = [] } = ends
+    ∙ ap (λ (x : SessionValue). record x { state = listed_in x.places x.state }) s_is in
+    told
+    ∙ (ap (λ (x : SessionValue). news_on (session_view config x) h x.unread (client_in config h x) x.news) e_is
+    ∙ ap
+    (λ t. news_on (session_view config a) h a.unread
+    (record { state = t; open_line = a.open_line; unread = a.unread; waiting = [] }) a.news)
+    (listed-in config h a.places a.mode a.state)
+    ∙ ap (λ left. news_left (session_view config a) h (client_in config h a) left a.news) (sym none))
+
+left_news : (v : View) (h : List Arrival) (c : Client) (ws : List ℕ) (news : Option News) → is_nothing ws ≡ false
+    → news ≡ news_left v h c ws news
+left_news v h c [] news e = absurd (grind arith)
+left_news v h c (b ∷ bs) news e = refl
+
+pub waiting-news : (config : Config) (h : List Arrival) (a s : SessionValue) (n : ℕ)
+    → s ≡ record a { waiting = drop n a.waiting } → is_nothing s.waiting ≡ false
+    → s.news ≡ news_taken (session_view config a) h (client_in config h a) n a.news
+waiting-news config h a s n skip left =
+    let still : is_nothing (drop n a.waiting) ≡ false = ap (λ (x : SessionValue). is_nothing x.waiting) (sym skip)
+    ∙ left in
+    ap (λ (x : SessionValue). x.news) skip
+    ∙ left_news (session_view config a) h (client_in config h a) (drop n a.waiting) a.news still
+
 -- the next line of a listing
 slice_get-end : (xs : List (List ℕ)) (y : List ℕ) → slice_get (xs ++ y ∷ []) (length xs) ≡ Some y
 slice_get-end [] y = refl
@@ -116,7 +151,7 @@ line-end config seen made e =
     subst (λ k. slice_get (listing (view_in config seen)) k ≡ Some end_line) long
     (slice_get-end (map station_line (map (station_at config.entries) seen.places)) end_line)
 
-pub ruleset took_lemmas = (took-settled, took-waiting)
+pub ruleset took_lemmas = (took-settled, took-waiting, took-news, waiting-news)
 
 station-there : (entries : List Entry) (p : ℕ) (d : Entry) → p < length entries
     → (slice_index_or entries p d).station ≡ station_at entries p

@@ -1,6 +1,6 @@
 -- What a line asks of a session.
 -- SeedLink 3, commands.
-use Rattle.std.specs.Prelude.{Bool, true, false, List, [], ◌∷◌, Some, None, option_map}
+use Rattle.std.specs.Prelude.{Bool, true, false, List, [], ◌∷◌, Some, None}
 use Rattle.protocol.specs.Catalog.{Config, View}
 use Rattle.protocol.specs.Lines.{Line}
 use Rattle.protocol.specs.Command.{Command, command_of}
@@ -11,7 +11,7 @@ use Rattle.protocol.specs.Session.Outcome.{Stays, Lists, Ends}
 use Rattle.catalog.specs.Places.{station_at}
 use Rattle.session_state.specs.declared.session.reading.Instruction.{Instruction}
 use Rattle.session_state.specs.declared.session.reading.Instruction.TheVariants.{Nothing, Greeting, Listing, Leaving}
-use Rattle.session_state.specs.declared.session.reading.Instruction.TheVariants.{Name, Clear}
+use Rattle.session_state.specs.declared.session.reading.Instruction.TheVariants.{Name, Unseen, Clear}
 use Rattle.session_state.specs.declared.session.reading.Instruction.TheVariants.{Add, Act, Finish, Refused}
 use Rattle.session_state.specs.Choices.{action_value}
 use Rattle.session_state.specs.Changes.{selecting}
@@ -22,7 +22,8 @@ outcome_by config v n Nothing = Stays [] n
 outcome_by config v n Greeting = Stays (greeting v) n
 outcome_by config v n Listing = Lists
 outcome_by config v n Leaving = Ends
-outcome_by config v n (Name found) = choose_station (choices_of n) (option_map (station_at config.entries) found)
+outcome_by config v n (Name place) = choose_station (choices_of n) (Some (station_at config.entries place))
+outcome_by config v n (Unseen asked) = choose_station (choices_of n) None
 outcome_by config v n Clear = select n None
 outcome_by config v n (Add pattern) = selecting n (Some pattern)
 outcome_by config v n (Act action) = act v n (action_value action)

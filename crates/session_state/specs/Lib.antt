@@ -5,4 +5,5 @@ pub mod Entries
 pub mod Orders
 pub mod Changes
 pub mod Asking
+pub mod NewsValues
 pub mod Sessions

@@ -19,7 +19,9 @@ use Rattle.session_state.specs.declared.session.State.{State}
 use Rattle.session_state.specs.declared.session.State.TheVariants.{Negotiating, Listing, Starting, Transfer, Ending}
 use Rattle.session_state.specs.declared.session.Settled.{Settled}
 use Rattle.session_state.specs.declared.session.Settled.TheVariants.{Rest, Start}
+use Rattle.session_state.specs.declared.news.News.{News}
 use Rattle.session_state.specs.Choices.{action_value, negotiated_in, chosen_of, request_in, all_at_start}
+use Rattle.session_state.specs.NewsValues.{news_on}
 
 -- a client with the places of the stations that it sees in place of their settings
 pub record SessionValue : Type 0 where
@@ -31,6 +33,8 @@ pub record SessionValue : Type 0 where
   pub waiting : List ℕ
   -- how many records had arrived when all requests were last found to have looked at their rings
   pub looked : Option ℕ
+  -- what there is to tell of the negotiation
+  pub news : Option News
 
 -- The state, where so many lines of a listing were made to wait. A transfer that is to start is in the definitions one
 -- that has started after the history.
@@ -109,13 +113,15 @@ never_starts Ending = true
 never_starts _ = false
 
 -- A session will read on as another one would. It sees the same stations, has not come nearer to a transfer than that
--- one's state allows, and is in a transfer only where that one is in the same.
+-- one's state allows, is in a transfer only where that one is in the same, and will have the same to tell.
 pub record ReadsOnAs (config : Config) (now first : SessionValue) : Type 0 where
   pub same : (h : List Arrival) → read_on (session_view config now) h now.unread (client_in config h now)
       ≡ read_on (session_view config first) h first.unread (client_in config h first)
   pub places : now.places ≡ first.places
   pub stays : never_starts first.state ≡ true → never_starts now.state ≡ true
   pub kept : KeepsTransfer first now
+  pub news : (h : List Arrival) → news_on (session_view config now) h now.unread (client_in config h now) now.news
+      ≡ news_on (session_view config first) h first.unread (client_in config h first) first.news
 
 -- It is a listing.
 abbrev pub is_listing : State → Bool

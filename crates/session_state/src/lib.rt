@@ -9,6 +9,7 @@ pub mod choices;
 mod kept_action;
 mod named;
 mod negotiation;
+pub mod news;
 mod order;
 mod refusals;
 pub mod session;
@@ -16,6 +17,7 @@ mod waiting;
 
 pub use choices::{Cursor, Entry, First};
 pub use kept_action::KeptAction;
+pub use news::{AskedStation, News};
 pub use refusals::NoRoom;
 pub use session::{Session, Settled, State};
 pub use sl_lines::Action;

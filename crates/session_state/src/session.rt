@@ -13,6 +13,7 @@ ghost use Rattle.protocol.specs.Client.{read_on, received, offered, after_take, 
 
 use crate::choices::{Cursor, Entry, First};
 use crate::negotiation::Negotiation;
+use crate::news::News;
 use crate::refusals::NoRoom;
 use crate::waiting::{Waiting, put_bytes, put_packet};
 use arrayvec::ArrayVec;
@@ -68,6 +69,7 @@ pub struct Session {
     waiting: Waiting,
     sent: usize,
     looked: Option<u64>,
+    news: Option<News>,
 }
 
 impl Model for Session {
@@ -84,6 +86,7 @@ impl Model for Session {
       unread = drop s.read s.unread.items;
       waiting = drop s.sent s.waiting;
       looked = s.looked;
+      news = s.news;
     } };
 
     ghost invariant = { λ s. (s.read ≤ length s.unread.items) × (s.sent ≤ length s.waiting)
@@ -109,6 +112,7 @@ impl Session {
         ensures places { IfOk result (λ s. s.places ≡ view) }
         ensures settled { IfOk result (λ s. s.state ≢ Starting) }
         ensures negotiates { IfOk result (λ s. s.state ≡ Negotiating) }
+        ensures news { IfOk result (λ s. s.news ≡ None) }
     {
         let mode = Negotiation::new(alloc, places_of(&view))?;
         Ok(Session {
@@ -121,6 +125,7 @@ impl Session {
             waiting: Waiting::new(),
             sent: 0,
             looked: None,
+            news: None,
         })
     }
 
@@ -218,6 +223,8 @@ impl Session {
     ghost use Rattle.session_state.specs.Choices.{chosen_of, kept_in};
     ghost use Rattle.session_state.specs.Sessions.{client_in, session_view, line_made, is_listing, HasPlaces};
     ghost use Rattle.session_state.specs.Sessions.{HasFirsts, Comes, KeepsTransfer, but_for_cursors, never_starts};
+    ghost use Rattle.session_state.specs.NewsValues.{news_on, news_received, news_taken};
+    ghost use Rattle.session_state.specs.declared.news.News.TheVariants.{Begins};
     ghost use Rattle.session_state.specs.declared.session.State.TheVariants.{Negotiating, Listing, Starting, Transfer};
     ghost use Rattle.session_state.specs.declared.session.State.TheVariants.{Ending};
     ghost use Rattle.session_state.specs.declared.session.Settled.TheVariants.{Rest, Start};
@@ -245,6 +252,8 @@ impl Session {
         ensures kept { KeepsTransfer self.old self.new }
         ensures starting { result ≡ Start → self.new.state ≡ Starting }
         ensures settled { result ≡ Rest → self.new.state ≢ Starting }
+        ensures news { (h : List Arrival) → self.new.news ≡ news_on (session_view config.now self.old) h
+            self.old.unread (client_in config.now h self.old) self.old.news }
     {
         while self.has_unread() && self.is_reading() {
             self.read_line(config);
@@ -266,6 +275,9 @@ impl Session {
         ensures unchanged { OnErr result (self.new ≡ self.old) }
         ensures starting { IfOk result (λ settled. settled ≡ Start → self.new.state ≡ Starting) }
         ensures settled { IfOk result (λ settled. settled ≡ Rest → self.new.state ≢ Starting) }
+        ensures news { IfOk result (λ settled. (h : List Arrival) → self.new.news
+            ≡ news_received (session_view config.now self.old) h bytes.now (client_in config.now h self.old)
+            self.old.news) }
         ensures room { is_ok result ≡ not (nat_lt (1024 - length self.old.unread) (length bytes.now)) }
         ensures kept { KeepsTransfer self.old self.new }
         ensures places { self.new.places ≡ self.old.places }
@@ -285,10 +297,11 @@ impl Session {
     #[tactic(auto, using(crate::proofs::ReceiveLemmas::start_lemmas))]
     pub fn enter(&mut self)
         requires { self.old.state ≡ Starting }
-        ensures state { self.new ≡ record self.old { state = Transfer 0; looked = None } }
+        ensures state { self.new ≡ record self.old { state = Transfer 0; looked = None; news = Some Begins } }
         ensures client { (config : ProtocolConfig) (h : List Arrival) → HasFirsts config h self.old →
             client_in config h self.new ≡ client_in config h self.old }
     {
+        self.tell(News::Begins);
         self.forget_look();
         self.turn_to(State::Transfer(0));
     }
@@ -305,6 +318,8 @@ impl Session {
         ensures settled { result ≡ Rest → self.old.state ≢ Starting → self.new.state ≢ Starting }
         ensures kept { KeepsTransfer self.old self.new }
         ensures places { self.new.places ≡ self.old.places }
+        ensures news { (h : List Arrival) → self.new.news
+            ≡ news_taken (session_view config.now self.old) h (client_in config.now h self.old) count self.old.news }
     {
         self.skip(count);
         if self.is_empty() {
@@ -414,6 +429,17 @@ impl Session {
     {
         let _ = &self.state;
         self.looked = Some(arrivals);
+    }
+
+    /// What there is to tell since this was asked last, if anything: the last of it.
+    pub fn take_news(&mut self) -> Option<News>
+        ensures news { result ≡ self.old.news }
+        ensures left { self.new ≡ record self.old { news = None } }
+    {
+        let _ = &self.state;
+        let news = self.news;
+        self.news = None;
+        news
     }
 
     /// The index of the named station at a place, where it is found at once: there is no other at that place.

@@ -11,17 +11,20 @@ ghost use Rattle.protocol.specs.Lines.{open_after, cut_from, is_line_end};
 ghost use Rattle.protocol.specs.History.{Arrival};
 ghost use Rattle.protocol.specs.Session.{Negotiated, greeting, ok_line, error_line};
 ghost use Rattle.protocol.specs.Client.{read_byte, reads, follow};
-ghost use Rattle.std.specs.Prelude.{Some};
-ghost use Rattle.protocol.specs.Catalog.{View as ProtocolView};
+ghost use Rattle.std.specs.Prelude.{Some, option_map};
+ghost use Rattle.protocol.specs.Catalog.{View as ProtocolView, find_station};
 ghost use Rattle.protocol.specs.Command.{command_of};
-ghost use Rattle.protocol.specs.Session.{outcome_of, select};
+ghost use Rattle.protocol.specs.Session.{choices_of, choose_station, outcome_of, select};
 ghost use Rattle.catalog.specs.Orders.{Fits};
 ghost use Rattle.catalog.specs.Places.{view_in};
 ghost use Rattle.sl_lines.specs.LineValues.{line_value};
 ghost use Rattle.session_state.specs.Asking.{is_bye, is_leaving, outcome_by};
+ghost use Rattle.session_state.specs.NewsValues.{asked_by, missed_by, missed_in, missed_of, missing, news_after};
+ghost use Rattle.session_state.specs.NewsValues.{news_in};
 
 use super::{Session, State};
 use crate::negotiation::Change;
+use crate::news::{AskedStation, News};
 use crate::waiting::{put_end_line, put_error, put_greeting, put_ok, put_station_line};
 use arrayvec::ArrayVec;
 use catalog::{Config, View};
@@ -39,8 +42,10 @@ pub(crate) enum Instruction {
     Listing,
     /// BYE.
     Leaving,
-    /// STATION: the station that was found becomes the current one.
-    Name(Option<usize>),
+    /// STATION: the station at this place of the configuration becomes the current one.
+    Name(usize),
+    /// STATION of a station that the client doesn't see: none is the current one.
+    Unseen(AskedStation),
     /// SELECT without a pattern.
     Clear,
     /// SELECT with a pattern.
@@ -72,15 +77,14 @@ fn instruction_of(view: &View, config: &Config, line: Line<'_>) -> Instruction
         → outcome_of (view_in config.now view.now) n (command_of (line_value line.entry))
         ≡ outcome_by config.now (view_in config.now view.now) n result }
     ensures leaving { is_bye (command_of (line_value line.entry)) ≡ is_leaving result }
+    ensures missed { missed_by (view_in config.now view.now) (command_of (line_value line.entry)) ≡ missed_of result }
 {
     match command(line) {
         Command::Blank => Instruction::Nothing,
         Command::Hello => Instruction::Greeting,
         Command::Cat => Instruction::Listing,
         Command::Bye => Instruction::Leaving,
-        Command::Station { station, network } => Instruction::Name(view.find(
-            config, station, network,
-        )),
+        Command::Station { station, network } => naming(view, config, station, network),
         Command::Select { pattern: None } => Instruction::Clear,
         Command::Select {
             pattern: Some(text),
@@ -91,11 +95,30 @@ fn instruction_of(view: &View, config: &Config, line: Line<'_>) -> Instruction
     }
 }
 
+/// What STATION asks.
+#[tactic(auto, using(crate::proofs::AskLemmas::naming_lemmas))]
+fn naming(view: &View, config: &Config, station: &[u8], network: Option<&[u8]>) -> Instruction
+    requires { Fits config.now view.now }
+    ensures outcome { (n : Negotiated) → choose_station (choices_of n)
+        (find_station (view_in config.now view.now) station.now (option_map (λ n. n.now) network.entry))
+        ≡ outcome_by config.now (view_in config.now view.now) n result }
+    ensures stays { is_leaving result ≡ false }
+    ensures missed { missing
+        (find_station (view_in config.now view.now) station.now (option_map (λ n. n.now) network.entry))
+        (asked_by station.now (option_map (λ n. n.now) network.entry)) ≡ missed_of result }
+{
+    match view.find(config, station, network) {
+        Some(place) => Instruction::Name(place),
+        None => Instruction::Unseen(AskedStation::of(station, network)),
+    }
+}
+
 #[tactic(auto, using(crate::proofs::AskLemmas::selecting_lemmas))]
 fn selecting(text: &[u8]) -> Instruction
     ensures outcome { (config : ProtocolConfig) (v : ProtocolView) (n : Negotiated)
         → select n (Some text.now) ≡ outcome_by config v n result }
     ensures stays { is_leaving result ≡ false }
+    ensures missed { missed_of result ≡ None }
 {
     match Pattern::parse(text) {
         Some(pattern) => Instruction::Add(pattern),
@@ -120,6 +143,8 @@ impl Session {
             → outcome_of_lines (session_view config.now self.old) n (cut_from self.old.open_line (byte ∷ []))
             ≡ outcome_by config.now (session_view config.now self.old) n result }
         ensures leaving { says_bye (cut_from self.old.open_line (byte ∷ [])) ≡ is_leaving result }
+        ensures missed { missed_in (session_view config.now self.old) (cut_from self.old.open_line (byte ∷ []))
+            ≡ missed_of result }
     {
         let _ = &self.state;
         match self.cutter.push(byte) {
@@ -141,14 +166,20 @@ impl Session {
         ensures places { self.new.places ≡ self.old.places }
         ensures unread { self.new.unread ≡ self.old.unread }
         ensures elsewhere { (next : ℕ) → self.new.state ≢ Transfer next }
+        ensures news { self.new.news ≡ news_after self.old.news (missed_of instruction) }
     {
         match instruction {
             Instruction::Nothing => {}
             Instruction::Greeting => self.greet(config),
             Instruction::Listing => self.turn_to(State::Listing(0)),
             Instruction::Leaving => self.turn_to(State::Ending),
-            Instruction::Name(found) => {
-                let change = self.mode.name(config, found);
+            Instruction::Name(place) => {
+                let change = self.mode.name(config, Some(place));
+                self.take_change(change);
+            }
+            Instruction::Unseen(asked) => {
+                self.tell(News::NoStation(asked));
+                let change = self.mode.name(config, None);
                 self.take_change(change);
             }
             Instruction::Clear => {
@@ -172,7 +203,7 @@ impl Session {
     }
 
     /// One more byte is read, while nothing waits in negotiation.
-    #[tactic(auto, using(crate::proofs::LineLemmas::reads_byte))]
+    #[tactic(auto, using(crate::proofs::LineLemmas::read_lemmas))]
     fn read_command(&mut self, config: &Config, byte: u8)
         requires places { HasPlaces config.now self.old }
         requires negotiating { self.old.state ≡ Negotiating }
@@ -182,6 +213,8 @@ impl Session {
         ensures places { self.new.places ≡ self.old.places }
         ensures unread { self.new.unread ≡ self.old.unread }
         ensures elsewhere { (next : ℕ) → self.new.state ≢ Transfer next }
+        ensures news { self.new.news ≡ news_after self.old.news
+            (missed_in (session_view config.now self.old) (cut_from self.old.open_line (byte ∷ []))) }
     {
         let _ = &self.view;
         let instruction = self.ask(config, byte);
@@ -199,6 +232,7 @@ impl Session {
         ensures unread { self.new.unread ≡ self.old.unread }
         ensures stays { never_starts self.new.state ≡ true }
         ensures kept { KeepsTransfer self.old self.new }
+        ensures news { self.new.news ≡ self.old.news }
     {
         let _ = &self.view;
         let instruction = self.ask(config, byte);
@@ -226,6 +260,7 @@ impl Session {
     }
 
     /// One more byte is read, where one may be.
+    #[tactic(auto, using(crate::proofs::LineLemmas::byte_lemmas))]
     fn read_byte(&mut self, config: &Config, byte: u8)
         requires places { HasPlaces config.now self.old }
         requires nothing_waits { self.old.state ≡ Negotiating → self.old.waiting ≡ [] }
@@ -237,6 +272,9 @@ impl Session {
         ensures unread { self.new.unread ≡ self.old.unread }
         ensures stays { never_starts self.old.state ≡ true → never_starts self.new.state ≡ true }
         ensures kept { KeepsTransfer self.old self.new }
+        ensures news { (h : List Arrival) → self.new.news
+            ≡ news_in (session_view config.now self.old) (client_in config.now h self.old).state
+            (cut_from self.old.open_line (byte ∷ [])) self.old.news }
     {
         match self.state {
             State::Negotiating => self.read_command(config, byte),
@@ -284,6 +322,13 @@ impl Session {
     {
         let _ = &self.mode;
         self.looked = None;
+    }
+
+    pub(super) fn tell(&mut self, news: News)
+        ensures { self.new ≡ record self.old { news = Some news } }
+    {
+        let _ = &self.mode;
+        self.news = Some(news);
     }
 
     pub(super) fn greet(&mut self, config: &Config)

@@ -26,17 +26,19 @@ returns-in-Took-clause-goes g c = λ t config w offers.
     (calls c.hand_pieces-filled.new.ports) c.hand_pieces-filled.result mid none
     (c.hand_pieces-filled.ensures.hands config w offers) in
     let same = c.in-Took.ensures.unchanged in
-    subst (λ b. OnceOffered config k w b (calls c.hand.new.ports) c.go_on.new.self t c.args.seat.now c.hand.new.seat
+    subst (λ z. OnceOffered config k w (calls c.args.ports.now) z c.go_on.new.server t c.args.seat.now c.hand.new.seat
+    c.go_on.result 1) (sym c.go_on.ensures.calls)
+    (subst (λ b. OnceOffered config k w b (calls c.hand.new.ports) c.go_on.new.server t c.args.seat.now c.hand.new.seat
     c.go_on.result 1) (c.hand_pieces-filled.ensures.nothing none)
     (subst (λ (s : Seat). OnceOffered config k w (calls c.hand_pieces-filled.new.ports) (calls c.hand.new.ports)
-    c.go_on.new.self t c.args.seat.now s c.go_on.result 1) (sym same.1)
+    c.go_on.new.server t c.args.seat.now s c.go_on.result 1) (sym same.1)
     (wrote-on config w k c.in-Took.count (calls c.hand_pieces-filled.new.ports) (calls c.hand.new.ports)
-    mid c.go_on.new.self t c.args.seat.now c.hand_pieces-filled.result.found c.go_on.result there
+    mid c.go_on.new.server t c.args.seat.now c.hand_pieces-filled.result.found c.go_on.result there
     (c.in-Took.ensures.hands t config w there)
     (λ v stands. c.go_on.ensures.stands config v
     (subst (λ (x : ServerValue). StandsAt x config v) (sym same.0) stands))
     (λ v stands. c.go_on.ensures.answer config v
-    (subst (λ (x : ServerValue). StandsAt x config v) (sym same.0) stands))))
+    (subst (λ (x : ServerValue). StandsAt x config v) (sym same.0) stands)))))
 
 pub returns-in-Stopped-clause-goes : goal.returns-in-Stopped-clause-goes
 returns-in-Stopped-clause-goes g c = λ t config w offers.

@@ -14,7 +14,7 @@ pub returns-then-has_unread-clause-reads : goal.returns-then-has_unread-clause-r
 returns-then-has_unread-clause-reads c =
     settle-step c.args.config.now c.take_text.new.self c.next_byte-byte.new.self c.read_byte.new.self _
     c.next_byte-byte.ensures.byte c.next_byte-byte.ensures.rest c.read_byte.ensures.client c.read_byte.ensures.places
-    c.read_byte.ensures.unread c.read_byte.ensures.stays c.read_byte.ensures.kept
+    c.read_byte.ensures.unread c.read_byte.ensures.stays c.read_byte.ensures.kept c.read_byte.ensures.news
     (λ h. ap (λ (s : SessionValue). reads (client_in c.args.config.now h s).state s.waiting) c.take_text.ensures.taken
     ∙ c.requires.reads h) c.args.self.now
     (settle-text c.args.config.now c.args.self.now c.take_text.new.self c.take_text.ensures.taken

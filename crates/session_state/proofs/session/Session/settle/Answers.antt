@@ -1,5 +1,6 @@
 use Rattle.std.proofs.Common.{sym, ◌∙◌}
 use Rattle.session_state.proofs.SettleLemmas.{reads-then, settles, settles-kept, read_on-nothing, read_on-stopped}
+use Rattle.session_state.proofs.SettleLemmas.{news-nothing, news-stopped, settles-news}
 use Rattle.session_state.proofs.session.Session.settle.Goals.{then-loop-self-test+else-is_reading, else-loop-self-test}
 use Rattle.session_state.proofs.session.Session.settle.Goals as goal
 
@@ -27,4 +28,17 @@ returns-clause-client c = λ h.
 pub returns-clause-kept : goal.returns-clause-kept
 returns-clause-kept c =
     settles-kept c.args.config.now c.loop-self.self c.drop_if_ending.new.self c.args.self.now c.drop_if_ending.ensures
+    c.loop-self.invariant
+
+pub returns-clause-news : goal.returns-clause-news
+returns-clause-news c = λ h.
+    settles-news c.args.config.now h c.loop-self.self c.drop_if_ending.new.self c.args.self.now
+    c.drop_if_ending.ensures
+    (λ apart. elim c.loop-self-test.branch [
+      | then-loop-self-test+else-is_reading w ↦
+          news-stopped c.args.config.now h c.loop-self.self
+          (w.is_reading.ensures.may_not w.if-is_reading.false apart c.args.config.now h)
+      | else-loop-self-test w ↦ news-nothing c.args.config.now h c.loop-self.self
+          (sym c.has_unread.ensures ∙ w.loop-self-test.false)
+    ])
     c.loop-self.invariant

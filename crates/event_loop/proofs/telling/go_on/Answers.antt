@@ -1,0 +1,5 @@
+use Rattle.event_loop.proofs.telling.go_on.Goals as goal
+
+pub returns-then-listens-clause-stands : goal.returns-then-listens-clause-stands
+returns-then-listens-clause-stands g c = λ config w stands.
+    c.tell_news.ensures.stands config _ (c.go_on-found.ensures.stands config w stands)

@@ -1,0 +1,1 @@
+-- Each goal of it is found without an answer. The file spares the edits of this function the printing of one.
