@@ -1,5 +1,6 @@
 pub mod Admitting
 pub mod KeptNumbers
+pub mod AskedStations
 pub mod Refusals
 pub mod Serving
 pub mod Taken

@@ -3,6 +3,7 @@
 #![tactic(auto)]
 
 mod admitting;
+mod asked;
 mod counts;
 mod descriptors;
 mod in_force;

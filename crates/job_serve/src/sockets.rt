@@ -182,7 +182,7 @@ fn ports_that_log<'l>(
     ensures inner { IfOk result (λ logged. logged.inner ≡ ports) }
     ensures room { IfOk result (λ logged. logged.visitors.room ≡ most + 16) }
 {
-    let journal = VisitLines::new(rt, rt.alloc(), lines, counts)?;
+    let journal = VisitLines::new(rt, rt.alloc(), most, lines, counts)?;
     LoggedPorts::new(rt.alloc(), ports, most + FEEDS, journal)
 }
 

@@ -2,6 +2,7 @@
 ghost use Rattle.std.specs.Prelude.{[], ◌∷◌, None};
 ghost use Rattle.ports_logged.specs.Visits.{Notes, Passes};
 
+use crate::asked::{AskedLog, CloseLine, MoreReadLine};
 use crate::counts::SharedCounts;
 use crate::refusals::{RefusalLog, RefusedLine, RefusedText};
 use error_lines::{ErrorLine, ErrorLines, StandardError};
@@ -11,6 +12,7 @@ use ports_logged::{Journal, Sent, Visit};
 use std::alloc::{AllocError, Global};
 use std::cell::{Cell, RefCell};
 use std::fmt::{self, Display, Formatter, Write};
+use std::net::Ipv4Addr;
 
 /// Lines to standard error that several parts of a server write.
 #[derive(Drop)]
@@ -53,7 +55,8 @@ impl SharedLines {
 }
 
 /// A journal whose entries are lines, as `seedlinkd: open 17 10.0.0.7`. Of records that were refused it writes one for
-/// each cause of a feed, and for each unknown station one an hour. It counts what a status port tells of visits, if
+/// each cause of a feed, and for each unknown station one an hour; of stations that a client was refused one each, up to
+/// 64 a client. It counts what a status port tells of visits, if
 /// there is one.
 #[derive(Drop)]
 pub struct VisitLines<'l> {
@@ -61,6 +64,7 @@ pub struct VisitLines<'l> {
     /// None if no line is written.
     lines: Option<&'l SharedLines>,
     refusals: RefusalLog,
+    asked: AskedLog,
     counts: Option<&'l SharedCounts>,
     /// When the server began, in microseconds of the system's clock, and how many milliseconds had passed since as the
     /// turn under way began.
@@ -69,18 +73,21 @@ pub struct VisitLines<'l> {
 }
 
 impl<'l> VisitLines<'l> {
-    /// A journal that wrote and counted nothing yet. It fails only for want of memory.
+    /// A journal that wrote and counted nothing yet, of so many clients at most. It fails only for want of memory.
     pub fn new(
         rt: &'l HostRuntime,
         alloc: Global,
+        clients: usize,
         lines: Option<&'l SharedLines>,
         counts: Option<&'l SharedCounts>,
     ) -> Result<VisitLines<'l>, AllocError> {
         let refusals = RefusalLog::new(alloc)?;
+        let asked = AskedLog::new(alloc, if lines.is_some() { clients } else { 0 })?;
         Ok(VisitLines {
             rt,
             lines,
             refusals,
+            asked,
             counts,
             began: microseconds(rt),
             now: 0,
@@ -111,6 +118,18 @@ impl VisitLines<'_> {
         }
     }
 
+    /// A transfer of a client began. If it has more stations than lines told, it is told how many more.
+    fn write_more_read(&mut self, lines: &SharedLines, port: u64, address: Ipv4Addr) {
+        let more = self.asked.begin();
+        if more > 0 {
+            lines.write_line(&line_of(MoreReadLine {
+                port,
+                address,
+                more,
+            }));
+        }
+    }
+
     /// Writes the line of a visit, if one is due.
     fn write(&mut self, lines: &SharedLines, visit: &Visit) {
         match visit {
@@ -127,6 +146,21 @@ impl VisitLines<'_> {
             } => {
                 self.refusals.forget(*port);
                 lines.write_line(&line_of(visit));
+            }
+            Visit::NoStation { port, codes, .. } => {
+                if self.asked.add(*port, *codes) {
+                    lines.write_line(&line_of(visit));
+                }
+            }
+            Visit::Reads { .. } => {
+                if self.asked.add_read() {
+                    lines.write_line(&line_of(visit));
+                }
+            }
+            Visit::Begins { port, address } => self.write_more_read(lines, *port, *address),
+            Visit::Close { port, .. } => {
+                let more = self.asked.forget(*port);
+                lines.write_line(&line_of(CloseLine { visit, more }));
             }
             Visit::Cut {
                 port: _,
@@ -160,6 +194,11 @@ impl Journal for VisitLines<'_> {
         if let Some(counts) = self.counts {
             counts.took(sent);
         }
+    }
+
+    /// If lines are written.
+    fn listens(&self) -> bool {
+        self.lines.is_some()
     }
 
     /// What the ports say first after a wait begins a turn. Without a status port nobody asks for the time, and
