@@ -441,9 +441,13 @@ state_asked = refl
 abbrev status_words : List Text
 status_words = codes "seedlinkd" ∷ codes "status" ∷ codes "127.0.0.1:18002" ∷ []
 
-pub status_asked : job_of status_words ≡ Some (Status (codes "127.0.0.1:18002"))
+pub status_asked : job_of status_words ≡ Some (Status (codes "127.0.0.1:18002") false)
 unfolding clap_on_literals
 status_asked = refl
+
+pub silent_asked : job_of (status_words ++ codes "--silent" ∷ []) ≡ Some (Status (codes "127.0.0.1:18002") true)
+unfolding clap_on_literals
+silent_asked = refl
 
 pub status_taken : fault_of program_app status_words ≡ []
 unfolding clap_on_literals

@@ -138,9 +138,12 @@ read_app = app_by (codes "read") (
     ∷ option false (codes "output")
     ∷ [])
 
--- `status A:P`
+-- `status A:P ..`
 abbrev pub status_app : App
-status_app = app_by (codes "status") (wanted (codes "SERVER") ∷ [])
+status_app = app_by (codes "status") (
+    wanted (codes "SERVER")
+    ∷ flag_rule (codes "silent")
+    ∷ [])
 
 -- the program before it has arguments and subcommands, of which it wants one
 abbrev pub bare_app : App

@@ -159,7 +159,7 @@ pub data Asked : Type 0 where
   Serve : (options : ServeAsked) → Asked
   Feed : (server : List ℕ) → (files : List (List ℕ)) → (options : FeedAsked) → Asked
   Read : (server : List ℕ) → (wants : List (List ℕ)) → (options : ReadAsked) → Asked
-  Status : (server : List ℕ) → Asked
+  Status : (server : List ℕ) → (is_silent : Bool) → Asked
 
 -- the job that the code has
 abbrev pub asked : Job → Asked
@@ -171,7 +171,7 @@ asked (job.Feed server files options) =
     Feed server.now (map (λ file. file.now) files.items) (feed_options_asked options)
 asked (job.Read server wants options) =
     Read server.now (map (λ want. want.now) wants.items) (options_asked options)
-asked (job.Status server) = Status server.now
+asked (job.Status server is_silent) = Status server.now is_silent
 
 -- a flag was given
 abbrev pub flag_in : Text → List Row → Bool
@@ -392,7 +392,8 @@ read_asked rows =
 
 -- the job of `status`, if its server is there
 abbrev pub status_asked : List Row → Option Asked
-status_asked rows = option_map Status (first_of (codes "SERVER") rows)
+status_asked rows =
+    option_map (λ server. Status server (flag_in (codes "silent") rows)) (first_of (codes "SERVER") rows)
 
 -- nothing
 abbrev pub is_nothing : List ℕ → Bool

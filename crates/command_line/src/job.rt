@@ -33,9 +33,10 @@ pub enum Job<'a> {
         wants: Vec<&'a str>,
         options: ReadOptions<'a>,
     },
-    /// `status A:P`: how a server stands, by its status port.
+    /// `status A:P [--silent]`: how a server stands, by its status port; with `--silent` its silent stations alone.
     Status {
         server: &'a str,
+        is_silent: bool,
     },
 }
 

@@ -189,7 +189,10 @@ pub static REPLAY: [Argument<'static>; 3] = [
     Flag("text", "Prints the dialogue as text, a line for each event"),
 ];
 
-pub static STATUS: [Argument<'static>; 1] = [Wanted(
-    "SERVER",
-    "Address and port of --status of a server, as 127.0.0.1:18002",
-)];
+pub static STATUS: [Argument<'static>; 2] = [
+    Wanted(
+        "SERVER",
+        "Address and port of --status of a server, as 127.0.0.1:18002",
+    ),
+    Flag("silent", "Prints the counts and the silent stations alone"),
+];

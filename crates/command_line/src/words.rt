@@ -335,7 +335,10 @@ fn status_job<'a>(arguments: &ArgMatches<'a>) -> Option<Job<'a>>
     ensures { option_map asked result ≡ status_asked (rows_of (found_of arguments.now)) }
 {
     let server = text_at(arguments, "SERVER")?;
-    Some(Job::Status { server })
+    Some(Job::Status {
+        server,
+        is_silent: has_flag(arguments, "silent"),
+    })
 }
 
 /// Whether an option has no text.

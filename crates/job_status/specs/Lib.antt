@@ -1,3 +1,4 @@
 pub mod Columns
 pub mod Answers
 pub mod Faults
+pub mod Questions

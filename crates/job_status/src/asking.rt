@@ -1,4 +1,7 @@
 //! A question to a status port over a connection.
+ghost use Rattle.std.specs.Prelude.{◌≡◌};
+ghost use Rattle.job_status.specs.Questions.{question_of};
+
 use crate::status_fault::StatusFault;
 use files::milliseconds;
 use incidents::Failure;
@@ -7,8 +10,26 @@ use std::io::{self, Read};
 use std::net::TcpStream;
 use std::time::Duration;
 
+/// Which stations are asked for.
+#[derive(Clone, Copy, Drop)]
+pub enum Stations {
+    /// All of them, and the clients.
+    All,
+    /// Those that are silent, and no clients.
+    Silent,
+}
+
 /// What is asked.
-const QUESTION: &[u8] = b"GET /plain HTTP/1.1\r\nHost: localhost\r\nConnection: close\r\n\r\n";
+fn question_of(stations: Stations) -> &'static [u8]
+    ensures { result.now ≡ question_of stations }
+{
+    match stations {
+        Stations::All => b"GET /plain HTTP/1.1\r\nHost: localhost\r\nConnection: close\r\n\r\n",
+        Stations::Silent => {
+            b"GET /plain?state=silent HTTP/1.1\r\nHost: localhost\r\nConnection: close\r\n\r\n"
+        }
+    }
+}
 
 /// How many milliseconds the whole answer is waited for.
 const PATIENCE: u64 = 10_000;
@@ -38,9 +59,9 @@ fn closed(came: usize) -> Failure {
 }
 
 /// Asks over a connection.
-fn put_question(stream: &TcpStream) -> Result<(), Failure> {
+fn put_question(stream: &TcpStream, stations: Stations) -> Result<(), Failure> {
     let mut out = Outer::new(stream);
-    match write_all(&mut out, QUESTION) {
+    match write_all(&mut out, question_of(stations)) {
         Ok(()) => Ok(()),
         Err(_) => Err(closed(0)),
     }
@@ -98,10 +119,10 @@ fn take_answer(rt: &HostRuntime, stream: &TcpStream) -> Result<Vec<u8>, Failure>
     Err(unanswered(bytes.len()))
 }
 
-/// Asks a status port for its two tables over a connection, and takes what it answers. It fails with Status Quiet if
+/// Asks a status port for its tables of those stations over a connection, and takes what it answers. It fails with Status Quiet if
 /// nothing came for ten seconds, with Status Closed if the connection ended before anything came, with Status Ended if
 /// it ended later, the answer was not there after ten seconds or is longer than 4 MiB, and for want of memory.
-pub fn ask(rt: &HostRuntime, stream: &TcpStream) -> Result<Vec<u8>, Failure> {
-    put_question(stream)?;
+pub fn ask(rt: &HostRuntime, stream: &TcpStream, stations: Stations) -> Result<Vec<u8>, Failure> {
+    put_question(stream, stations)?;
     take_answer(rt, stream)
 }

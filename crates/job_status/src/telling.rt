@@ -3,7 +3,7 @@ ghost use Rattle.std.specs.Prelude.{ℕ, IfOk, List};
 ghost use Rattle.job_status.specs.Answers.{Answers};
 
 use crate::answer::answer_in;
-use crate::asking::ask;
+use crate::asking::{Stations, ask};
 use crate::columns::laid_out;
 use incidents::{Failure, Incident};
 use job_base::{ServerAddress, connection, server_of};
@@ -36,26 +36,35 @@ fn tell_answer(rt: &HostRuntime, bytes: &[u8]) -> Result<bool, Failure>
 }
 
 /// Asks a server over a connection that is open, and writes what it answers. Whether a station is silent.
-fn tell_by(rt: &HostRuntime, stream: TcpStream) -> Result<bool, Failure> {
-    let bytes = ask(rt, &stream)?;
+fn tell_by(rt: &HostRuntime, stream: TcpStream, stations: Stations) -> Result<bool, Failure> {
+    let bytes = ask(rt, &stream, stations)?;
     tell_answer(rt, bytes.as_slice())
 }
 
 /// Connects to a server, and writes what it answers. Whether a station is silent.
-fn tell_over<'a>(rt: &HostRuntime, server: ServerAddress<'a>) -> Result<bool, Incident<'a>> {
+fn tell_over<'a>(
+    rt: &HostRuntime,
+    server: ServerAddress<'a>,
+    stations: Stations,
+) -> Result<bool, Incident<'a>> {
     let stream = connection(rt, server)?;
-    match tell_by(rt, stream) {
+    match tell_by(rt, stream, stations) {
         Ok(is_silent) => Ok(is_silent),
         Err(failure) => Err(failure.at_server(server.word)),
     }
 }
 
-/// Writes how a server stands, by its status port that a word names. Whether a station is silent.
+/// Writes how a server stands and its tables of those stations, by its status port that a word names. Whether a station
+/// is silent.
 ///
 /// It fails with Address if the word is no address with a port, with Connect if no connection could be made, with
 /// Status if the answer ends too early or is not that of a status port, if not all could be written, and for want of
 /// memory.
-pub fn tell_status<'a>(rt: &HostRuntime, word: &'a str) -> Result<bool, Incident<'a>> {
+pub fn tell_status<'a>(
+    rt: &HostRuntime,
+    word: &'a str,
+    stations: Stations,
+) -> Result<bool, Incident<'a>> {
     let server = server_of(word)?;
-    tell_over(rt, server)
+    tell_over(rt, server, stations)
 }

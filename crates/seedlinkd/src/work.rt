@@ -1,7 +1,7 @@
 //! What is done for each job.
 ghost use Rattle.std.specs.Prelude.{◌≡◌, IfOk, IsErr, Ok, OnErr, OnOk};
 ghost use Rattle.seedlinkd.specs.Outcomes.{outcome_of};
-ghost use Rattle.seedlinkd.specs.Words.{style_by};
+ghost use Rattle.seedlinkd.specs.Words.{stations_by, style_by};
 ghost use Rattle.seedlinkd.specs.declared.work.Outcome.TheVariants.{Done};
 
 use command_line::Job;
@@ -11,7 +11,7 @@ use job_check::{ReplayStyle, check_files, replay_files, view_file};
 use job_feed::feed_files;
 use job_read::read_servers;
 use job_serve::{ServeRequest, serve_sockets};
-use job_status::tell_status;
+use job_status::{Stations, tell_status};
 
 /// How a replay writes what happens, by whether `--text` was given.
 fn style_of(is_text: bool) -> ReplayStyle
@@ -21,6 +21,17 @@ fn style_of(is_text: bool) -> ReplayStyle
         ReplayStyle::Dialogue
     } else {
         ReplayStyle::Hexadecimal
+    }
+}
+
+/// Which stations of a server are told, by whether `--silent` was given.
+fn stations_of(is_silent: bool) -> Stations
+    ensures { result ≡ stations_by is_silent }
+{
+    if is_silent {
+        Stations::Silent
+    } else {
+        Stations::All
     }
 }
 
@@ -87,6 +98,8 @@ pub fn run_job<'a>(
             wants,
             options,
         } => done(read_servers(rt, server, wants.as_slice(), options, is_verbose)),
-        Job::Status { server } => looked(tell_status(rt, server)),
+        Job::Status { server, is_silent } => {
+            looked(tell_status(rt, server, stations_of(is_silent)))
+        }
     }
 }

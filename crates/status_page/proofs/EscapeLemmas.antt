@@ -1,21 +1,24 @@
 -- A template that is filled, piece by piece.
 use Rattle.std.proofs.Common.{◌≡◌, ◌⊎◌, inl, inr, ℕ, ◌==◌, ◌||◌, nat_lt, Bool, true, false, List, [], ◌∷◌, ◌++◌, refl, ap}
-use Rattle.std.proofs.Common.{if◌then◌else◌, flat_map, append_assoc, append-nil, sym, ◌∙◌, ap₂, subst}
+use Rattle.std.proofs.Common.{length, if◌then◌else◌, flat_map, append_assoc, append-nil, sym, ◌∙◌, ap₂, subst}
 use Rattle.std.specs.Prelude.{codes}
 use Rattle.status_page.specs.declared.escape.Language.{Language}
 use Rattle.status_page.specs.declared.escape.Language.TheVariants as language
 use Rattle.status_page.specs.declared.place.Place.{Place}
 use Rattle.status_page.specs.declared.template.Piece.{Piece}
-use Rattle.status_page.specs.declared.template.Piece.TheVariants.{Text, Value}
+use Rattle.status_page.specs.declared.template.Piece.TheVariants.{Text, Value, TextOrNull}
 use Rattle.status_page.specs.declared.template.Section.{Section}
 use Rattle.status_page.specs.declared.template.Section.TheVariants.{Once, Stations, Clients, Refusals, Away, Buckets}
-use Rattle.status_page.specs.declared.template.Section.TheVariants.{AwayAtAll}
+use Rattle.status_page.specs.declared.template.Section.TheVariants.{AwayAtAll, StationList, ClientList}
+use Rattle.status_page.specs.declared.value.ClientStatus.{ClientStatus}
+use Rattle.status_page.specs.declared.value.StationStatus.{StationStatus}
 use Rattle.status_page.specs.declared.value.StatusValue.{StatusValue}
-use Rattle.status_page.specs.Escapes.{AreAll, IsEscaped, IsHarmless, IsOneOf, IsPiece, escaped, escaped_byte, escapes}
-use Rattle.status_page.specs.Escapes.{html_byte, joined, label_byte, shown_byte}
+use Rattle.status_page.specs.Escapes.{AreAll, IsEscape, IsEscaped, IsHarmless, IsOneOf, IsPiece, escaped, escaped_byte}
+use Rattle.status_page.specs.Escapes.{html_byte, joined, json_byte, label_byte, shown_byte}
 use Rattle.status_page.specs.Places.{bucket_text, client_text, count_text, server_text, station_text}
 use Rattle.status_page.specs.Templates.{filled, is_chosen, own_text, own_texts, piece_text, row_text, section_text}
-use Rattle.status_page.specs.Templates.{bucket_row, client_row, count_row, section_texts, texts_of}
+use Rattle.status_page.specs.Templates.{bucket_row, client_list, client_row, count_row, later_client, later_station}
+use Rattle.status_page.specs.Templates.{section_texts, station_list, text_or_null, texts_of}
 
 -- by whether a test holds
 choose : (P : List ℕ → Type 0) (c : Bool) (x y : List ℕ) → (c ≡ true → P x) → (c ≡ false → P y)
@@ -27,7 +30,7 @@ choose P false x y f g = g refl
 
 -- an escape, or a byte that means nothing
 abbrev IsByte : Language → List ℕ → Type 0
-IsByte l piece = IsOneOf (escapes l) piece ⊎ ((b : ℕ) × (piece ≡ b ∷ []) × IsHarmless l b)
+IsByte l piece = IsEscape l piece ⊎ ((b : ℕ) × (piece ≡ b ∷ []) × IsHarmless l b)
 
 html_is : (b : ℕ) → IsByte language.Html (html_byte b)
 html_is b =
@@ -49,10 +52,18 @@ shown_is : (b : ℕ) → IsByte language.Plain (shown_byte b)
 shown_is b =
     choose (IsByte language.Plain) (nat_lt b 32 || (b == 127)) _ _ (λ _. inr (63, refl, refl)) (λ other. inr (b, refl, other))
 
+json_is : (b : ℕ) → IsByte language.Json (json_byte b)
+json_is b =
+    choose (IsByte language.Json) (b == 34) _ _ (λ _. inl (inl (inl refl))) (λ n34.
+    choose (IsByte language.Json) (b == 92) _ _ (λ _. inl (inl (inr (inl refl)))) (λ n92.
+    choose (IsByte language.Json) (nat_lt b 32 || nat_lt 126 b) _ _ (λ _. inl (inr (b, refl))) (λ printable.
+    inr (b, refl, (n34, n92, printable)))))
+
 byte_is : (l : Language) (b : ℕ) → IsByte l (escaped_byte l b)
 byte_is language.Html b = html_is b
 byte_is language.Metrics b = label_is b
 byte_is language.Plain b = shown_is b
+byte_is language.Json b = json_is b
 
 -- ---- texts one after the other
 
@@ -112,9 +123,21 @@ with_more l own more f text (ps, is, ok) =
 
 -- ---- rows, sections and templates
 
+-- a text of the template's own
+own_is : (l : Language) (own : List (List ℕ)) (t : List ℕ) → IsOneOf own t → IsEscaped l own t
+own_is l own t is = (t ∷ [], sym (append-nil t), (inl is, tt))
+
+or_null_is : (l : Language) (bytes : List ℕ) → IsEscaped l (codes "null" ∷ codes "\"" ∷ []) (text_or_null l bytes)
+or_null_is l bytes =
+    let own : List (List ℕ) = codes "null" ∷ codes "\"" ∷ [] in
+    choose (IsEscaped l own) (length bytes == 0) _ _ (λ _. own_is l own (codes "null") (inl refl))
+    (λ _. both l own (codes "\"") (escaped l bytes ++ codes "\"") (own_is l own (codes "\"") (inr (inl refl)))
+    (both l own (escaped l bytes) (codes "\"") (value_is l own bytes) (own_is l own (codes "\"") (inr (inl refl)))))
+
 piece_is : (l : Language) (value : Place → List ℕ) (piece : Piece) → IsEscaped l (own_text piece) (piece_text l value piece)
 piece_is l value (Text t) = (t.now ∷ [], sym (append-nil t.now), (inl (inl refl), tt))
 piece_is l value (Value place) = value_is l [] (value place)
+piece_is l value (TextOrNull place) = or_null_is l (value place)
 
 row_is : (l : Language) (value : Place → List ℕ) (pieces : List Piece)
     → IsEscaped l (texts_of pieces) (row_text l pieces value)
@@ -129,6 +152,39 @@ chosen_row : (l : Language) (own : List (List ℕ)) (c : Bool) (text : List ℕ)
     → IsEscaped l own (if c then text else [])
 chosen_row l own c text is = choose (IsEscaped l own) c text [] (λ _. is) (λ _. none l own)
 
+-- a row, where a comma is a text of the template too
+row_in_list : (l : Language) (value : Place → List ℕ) (pieces : List Piece)
+    → IsEscaped l (codes "," ∷ texts_of pieces) (row_text l pieces value)
+row_in_list l value pieces =
+    with_more l (texts_of pieces) (codes "," ∷ texts_of pieces) (λ t is. inr is) _ (row_is l value pieces)
+
+-- a comma and a row
+later_is : (l : Language) (value : Place → List ℕ) (pieces : List Piece)
+    → IsEscaped l (codes "," ∷ texts_of pieces) (codes "," ++ row_text l pieces value)
+later_is l value pieces =
+    let own : List (List ℕ) = codes "," ∷ texts_of pieces in
+    both l own (codes ",") (row_text l pieces value) (own_is l own (codes ",") (inl refl)) (row_in_list l value pieces)
+
+stations_are : (l : Language) (pieces : List Piece) (ss : List StationStatus)
+    → IsEscaped l (codes "," ∷ texts_of pieces) (station_list l pieces ss)
+unfolding later_station
+stations_are l pieces [] = none l (codes "," ∷ texts_of pieces)
+stations_are l pieces (s ∷ ss) =
+    let own : List (List ℕ) = codes "," ∷ texts_of pieces in
+    both l own (row_text l pieces (station_text s)) (flat_map (later_station l pieces) ss)
+    (row_in_list l (station_text s) pieces)
+    (each l own (later_station l pieces) (λ x. later_is l (station_text x) pieces) ss)
+
+clients_are : (l : Language) (pieces : List Piece) (cs : List ClientStatus)
+    → IsEscaped l (codes "," ∷ texts_of pieces) (client_list l pieces cs)
+unfolding client_row later_client
+clients_are l pieces [] = none l (codes "," ∷ texts_of pieces)
+clients_are l pieces (c ∷ cs) =
+    let own : List (List ℕ) = codes "," ∷ texts_of pieces in
+    both l own (row_text l pieces (client_text c)) (flat_map (later_client l pieces) cs)
+    (row_in_list l (client_text c) pieces)
+    (each l own (later_client l pieces) (λ x. later_is l (client_text x) pieces) cs)
+
 section_is : (l : Language) (v : StatusValue) (section : Section)
     → IsEscaped l (section_texts section) (section_text l v section)
 unfolding client_row count_row bucket_row
@@ -137,6 +193,8 @@ section_is l v (Stations rows) =
     each l (texts_of rows.pieces.now) _ (λ s. chosen_row l _ (is_chosen rows.chosen s) _
     (row_is l (station_text s) rows.pieces.now)) v.stations.now
 section_is l v (Clients pieces) = each l _ _ (λ c. row_is l (client_text c) pieces.now) v.clients.now
+section_is l v (StationList pieces) = stations_are l pieces.now v.stations.now
+section_is l v (ClientList pieces) = clients_are l pieces.now v.clients.now
 section_is l v (Refusals pieces) = each l _ _ (λ n. row_is l (count_text n) pieces.now) v.refusals.now
 section_is l v (Away pieces) = each l _ _ (λ n. row_is l (count_text n) pieces.now) v.away.now
 section_is l v (AwayAtAll pieces) =

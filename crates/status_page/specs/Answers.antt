@@ -6,6 +6,7 @@ use Rattle.status_page.specs.declared.request.StatusRequest.{StatusRequest}
 use Rattle.status_page.specs.declared.request.Target.{Target}
 use Rattle.status_page.specs.declared.request.Target.TheVariants.{Page, PageByAge, Metrics, Health, Plain, Missing}
 use Rattle.status_page.specs.declared.request.Target.TheVariants.{NotAllowed, Misdirected, TooLong, Invalid}
+use Rattle.status_page.specs.declared.request.Target.TheVariants.{PlainSilent, Json}
 use Rattle.status_page.specs.declared.value.StatusValue.{StatusValue}
 use Rattle.status_page.specs.Places.{head_values}
 use Rattle.status_page.specs.Templates.{filled, row_text}
@@ -17,6 +18,8 @@ code_of is_silent PageByAge = codes "200 OK"
 code_of is_silent Metrics = codes "200 OK"
 code_of is_silent Health = if is_silent then codes "503 Service Unavailable" else codes "200 OK"
 code_of is_silent Plain = if is_silent then codes "503 Service Unavailable" else codes "200 OK"
+code_of is_silent PlainSilent = if is_silent then codes "503 Service Unavailable" else codes "200 OK"
+code_of is_silent Json = codes "200 OK"
 code_of is_silent Missing = codes "404 Not Found"
 code_of is_silent NotAllowed = codes "405 Method Not Allowed"
 code_of is_silent Misdirected = codes "421 Misdirected Request"
@@ -28,6 +31,7 @@ abbrev pub kind_of : Target → List ℕ
 kind_of Page = codes "text/html; charset=utf-8"
 kind_of PageByAge = codes "text/html; charset=utf-8"
 kind_of Metrics = codes "text/plain; version=0.0.4; charset=utf-8"
+kind_of Json = codes "application/json"
 kind_of _ = codes "text/plain; charset=utf-8"
 
 -- the body of a refusal
@@ -41,6 +45,8 @@ body_text ts PageByAge v = filled language.Html v ts.page.now
 body_text ts Metrics v = filled language.Metrics v ts.metrics.now
 body_text ts Health v = filled language.Plain v ts.health.now
 body_text ts Plain v = filled language.Plain v ts.plain.now
+body_text ts PlainSilent v = filled language.Plain v ts.plain_silent.now
+body_text ts Json v = filled language.Json v ts.json.now
 body_text ts target v = refusal_text ts target
 
 -- the head of an answer with so many bytes after it

@@ -8,7 +8,7 @@ use Rattle.status_page.specs.declared.place.Place.TheVariants.{State, Held, Capa
 use Rattle.status_page.specs.declared.place.Place.TheVariants.{Stop, StopSeconds, Silence, SilenceAge, Bars, Followers}
 use Rattle.status_page.specs.declared.place.Place.TheVariants.{Number, Address, Here, Named, Bytes, Ahead, Name}
 use Rattle.status_page.specs.declared.place.Place.TheVariants.{StatusCode, Kind, Length, HeardCount, WaitingCount}
-use Rattle.status_page.specs.declared.place.Place.TheVariants.{SilentCount, IsSilent, Limit}
+use Rattle.status_page.specs.declared.place.Place.TheVariants.{SilentCount, IsSilent, Limit, LimitOrNull, SinceKnown, StartKnown}
 use Rattle.status_page.specs.declared.place.Place.TheVariants as place
 use Rattle.status_page.specs.declared.place.HeadValue.{HeadValue}
 use Rattle.status_page.specs.declared.place.Row.{Row}
@@ -20,8 +20,8 @@ use Rattle.status_page.specs.declared.value.StationStatus.{StationStatus}
 use Rattle.status_page.specs.declared.value.ClientStatus.{ClientStatus}
 use Rattle.status_page.specs.declared.value.NamedCount.{NamedCount}
 use Rattle.status_page.specs.declared.value.TurnBucket.{TurnBucket}
-use Rattle.status_page.specs.Texts.{address_text, age_text, bars_text, last_text, micros_text, since_text, start_text}
-use Rattle.status_page.specs.Texts.{stop_seconds, stop_text}
+use Rattle.status_page.specs.Texts.{address_text, age_text, bars_text, known_text, last_text, micros_text, since_text}
+use Rattle.status_page.specs.Texts.{start_known, start_text, stop_seconds, stop_text}
 use Rattle.status_page.specs.Values.{is_in, is_silent, state_of}
 
 abbrev pub state_count_text : StationState → List StationStatus → List ℕ
@@ -33,6 +33,7 @@ server_text v Version = v.version.now
 server_text v Passed = decimal v.passed
 server_text v PassedAge = age_text v.passed
 server_text v Since = since_text v.began
+server_text v SinceKnown = known_text v.began
 server_text v SilentAfter = decimal v.silent_after
 server_text v HeardCount = state_count_text Heard v.stations.now
 server_text v WaitingCount = state_count_text Waiting v.stations.now
@@ -54,9 +55,9 @@ state_text SilentState = codes "silent"
 abbrev pub flag_text : Bool → List ℕ
 flag_text is_so = if is_so then codes "1" else codes "0"
 
-abbrev pub limit_text : Option ℕ → List ℕ
-limit_text None = codes "-"
-limit_text (Some seconds) = decimal seconds
+abbrev pub limit_text : (without : List ℕ) → Option ℕ → List ℕ
+limit_text without None = without
+limit_text without (Some seconds) = decimal seconds
 
 abbrev pub station_text : StationStatus → Place → List ℕ
 station_text s Network = s.network.now
@@ -65,13 +66,15 @@ station_text s Description = s.description.now
 station_text s Users = s.users.now
 station_text s State = state_text (state_of s)
 station_text s IsSilent = flag_text (is_silent s)
-station_text s Limit = limit_text s.silent_after
+station_text s Limit = limit_text (codes "-") s.silent_after
+station_text s LimitOrNull = limit_text (codes "null") s.silent_after
 station_text s Held = decimal s.held
 station_text s Capacity = decimal s.capacity
 station_text s NextNumber = s.next_number
 station_text s Came = decimal s.records
 station_text s Last = last_text s.last
 station_text s Start = start_text s.last
+station_text s StartKnown = start_known s.last
 station_text s Stop = stop_text s.last
 station_text s StopSeconds = stop_seconds s.last
 station_text s Silence = decimal s.age

@@ -6,7 +6,7 @@ use Rattle.status_page.specs.Hosts.{any_foreign}
 use Rattle.status_page.specs.declared.request.StatusRequest.{StatusRequest}
 use Rattle.status_page.specs.declared.request.Target.{Target}
 use Rattle.status_page.specs.declared.request.Target.TheVariants.{Page, PageByAge, Metrics, Health, Plain, Missing}
-use Rattle.status_page.specs.declared.request.Target.TheVariants.{NotAllowed, Misdirected}
+use Rattle.status_page.specs.declared.request.Target.TheVariants.{NotAllowed, Misdirected, PlainSilent, Json}
 
 -- how many fields a head may have
 abbrev pub MAX_FIELDS : ℕ
@@ -20,6 +20,8 @@ target_of path =
     else if bytes_eq path (codes "/metrics") then Metrics
     else if bytes_eq path (codes "/health") then Health
     else if bytes_eq path (codes "/plain") then Plain
+    else if bytes_eq path (codes "/plain?state=silent") then PlainSilent
+    else if bytes_eq path (codes "/json") then Json
     else Missing
 
 -- what is asked by a method and a path

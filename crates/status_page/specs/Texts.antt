@@ -33,10 +33,15 @@ abbrev pub unix_seconds : ℤ → List ℕ
 unix_seconds (pos n) = decimal (n / 10000)
 unix_seconds (negsuc n) = decimal 0
 
--- since when it serves, if the clock said so
+-- a moment, if it is known
+abbrev pub known_text : Option ℤ → List ℕ
+known_text None = []
+known_text (Some moment) = moment_text moment
+
+-- since when it serves, `-` if the clock did not say so
 abbrev pub since_text : Option ℤ → List ℕ
-since_text None = []
-since_text (Some began) = codes ", since " ++ moment_text began
+since_text None = codes "-"
+since_text (Some began) = moment_text began
 
 -- from when to when a record goes
 abbrev pub span_text : LastRecord → List ℕ
@@ -50,6 +55,11 @@ last_text (Some r) = span_text r
 abbrev pub start_text : Option LastRecord → List ℕ
 start_text None = codes "-"
 start_text (Some r) = moment_text r.start
+
+-- the same, with nothing if there is none
+abbrev pub start_known : Option LastRecord → List ℕ
+start_known None = []
+start_known (Some r) = moment_text r.start
 
 abbrev pub stop_text : Option LastRecord → List ℕ
 stop_text None = []

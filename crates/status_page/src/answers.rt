@@ -4,10 +4,11 @@ ghost use Rattle.status_page.specs.Answers.{answer_text, body_text, code_of, hea
 ghost use Rattle.status_page.specs.Answers.{refusal_text};
 
 use crate::escape::Language;
-use crate::metrics::METRICS;
-use crate::page::PAGE;
+use crate::json::json;
+use crate::metrics::metrics;
+use crate::page::page;
 use crate::place::{HeadValue, Place, Row};
-use crate::plain::{HEALTH, PLAIN};
+use crate::plain::{health, plain, plain_silent};
 use crate::request::{StatusRequest, Target};
 use crate::template::Piece::{self, Text, Value};
 use crate::template::{Section, put_row, put_template};
@@ -20,7 +21,9 @@ pub struct Templates {
     pub page: &'static [Section],
     pub metrics: &'static [Section],
     pub plain: &'static [Section],
+    pub plain_silent: &'static [Section],
     pub health: &'static [Section],
+    pub json: &'static [Section],
     /// The head of each answer.
     pub head: &'static [Piece],
     /// The body of a refusal.
@@ -29,7 +32,7 @@ pub struct Templates {
 
 /// The head of an answer. A browser stores nothing of it, takes it for what it is alone, and loads and runs nothing in
 /// the page but its own style, by its SHA-256; no other page may have it in a frame.
-const HEAD: &[Piece] = &[
+static HEAD: [Piece; 9] = [
     Text(b"HTTP/1.1 "),
     Value(Place::StatusCode),
     Text(b"\r\nContent-Type: "),
@@ -46,21 +49,30 @@ const HEAD: &[Piece] = &[
 ];
 
 /// The body of a refusal: its code.
-const REFUSAL: &[Piece] = &[Value(Place::StatusCode), Text(b"\n")];
+static REFUSAL: [Piece; 2] = [Value(Place::StatusCode), Text(b"\n")];
 
-/// All templates of answers.
-pub static TEMPLATES: Templates = Templates {
-    page: PAGE,
-    metrics: METRICS,
-    plain: PLAIN,
-    health: HEALTH,
-    head: HEAD,
-    refusal: REFUSAL,
-};
+/// The head of an answer.
+fn head() -> &'static [Piece] {
+    &HEAD
+}
+
+/// The body of a refusal.
+fn refusal() -> &'static [Piece] {
+    &REFUSAL
+}
 
 /// All templates of answers, for whoever need not know what they say.
-pub fn all_templates() -> &'static Templates {
-    &TEMPLATES
+pub fn all_templates() -> Templates {
+    Templates {
+        page: page(),
+        metrics: metrics(),
+        plain: plain(),
+        plain_silent: plain_silent(),
+        health: health(),
+        json: json(),
+        head: head(),
+        refusal: refusal(),
+    }
 }
 
 /// The code of an answer, with its phrase. What a watchdog asks for is unavailable if a station is silent.
@@ -68,8 +80,8 @@ fn code_of(target: Target, is_silent: bool) -> &'static [u8]
     ensures { result.now ≡ code_of is_silent target }
 {
     match target {
-        Target::Page | Target::PageByAge | Target::Metrics => b"200 OK",
-        Target::Health | Target::Plain => if is_silent {
+        Target::Page | Target::PageByAge | Target::Metrics | Target::Json => b"200 OK",
+        Target::Health | Target::Plain | Target::PlainSilent => if is_silent {
             b"503 Service Unavailable"
         } else {
             b"200 OK"
@@ -89,6 +101,7 @@ fn kind_of(target: Target) -> &'static [u8]
     match target {
         Target::Page | Target::PageByAge => b"text/html; charset=utf-8",
         Target::Metrics => b"text/plain; version=0.0.4; charset=utf-8",
+        Target::Json => b"application/json",
         _ => b"text/plain; charset=utf-8",
     }
 }
@@ -133,7 +146,15 @@ fn put_body(
         Target::Metrics => put_template(text, value, Language::Metrics, status, templates.metrics),
         Target::Health => put_template(text, value, Language::Plain, status, templates.health),
         Target::Plain => put_template(text, value, Language::Plain, status, templates.plain),
-        _ => put_refusal(text, value, templates, target),
+        Target::PlainSilent => {
+            put_template(text, value, Language::Plain, status, templates.plain_silent)
+        }
+        Target::Json => put_template(text, value, Language::Json, status, templates.json),
+        Target::Missing
+        | Target::NotAllowed
+        | Target::Misdirected
+        | Target::TooLong
+        | Target::Invalid => put_refusal(text, value, templates, target),
     }
 }
 

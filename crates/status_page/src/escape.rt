@@ -1,6 +1,8 @@
 //! How a value stands in a text: whatever it holds, it is a value there and no part of the language.
 ghost use Rattle.std.specs.Prelude.{◌≡◌, ◌∷◌, ◌++◌, [], OnOk};
-ghost use Rattle.status_page.specs.Escapes.{escaped, escaped_byte, html_byte, label_byte, shown_byte};
+ghost use Rattle.std.specs.Prelude.{◌<◌};
+ghost use Rattle.status_page.specs.Escapes.{escaped, escaped_byte, hex_digit, html_byte, json_byte, label_byte, numbered};
+ghost use Rattle.status_page.specs.Escapes.{shown_byte};
 
 use std::alloc::AllocError;
 
@@ -13,6 +15,8 @@ pub enum Language {
     Metrics,
     /// Plain text: bytes of a value that control a terminal are shown as `?`.
     Plain,
+    /// JSON (RFC 8259): in a string, double quotes, backslashes and all that is not printable ASCII are escaped.
+    Json,
 }
 
 /// A byte as it is.
@@ -60,6 +64,42 @@ fn put_shown(text: &mut Vec<u8>, byte: u8) -> Result<(), AllocError>
     }
 }
 
+/// The hexadecimal digit of a number, as a byte.
+fn hex_digit(number: u8) -> u8
+    requires { number < 16 }
+    ensures { result ≡ hex_digit number }
+{
+    if number < 10 {
+        b'0' + number
+    } else {
+        b'a' - 10 + number
+    }
+}
+
+/// A byte by its number, as `\u001b`.
+fn put_numbered(text: &mut Vec<u8>, byte: u8) -> Result<(), AllocError>
+    ensures { OnOk result (text.new.items ≡ text.old.items ++ numbered byte) }
+{
+    text.extend_from_slice(b"\\u00")?;
+    put_single(text, hex_digit(byte / 16))?;
+    put_single(text, hex_digit(byte % 16))
+}
+
+/// A byte in a string of JSON.
+fn put_json(text: &mut Vec<u8>, byte: u8) -> Result<(), AllocError>
+    ensures { OnOk result (text.new.items ≡ text.old.items ++ json_byte byte) }
+{
+    if byte == b'"' {
+        text.extend_from_slice(b"\\\"")
+    } else if byte == b'\\' {
+        text.extend_from_slice(b"\\\\")
+    } else if byte < 32 || byte > 126 {
+        put_numbered(text, byte)
+    } else {
+        put_single(text, byte)
+    }
+}
+
 /// A byte of a value.
 fn put_byte(text: &mut Vec<u8>, language: Language, byte: u8) -> Result<(), AllocError>
     ensures { OnOk result (text.new.items ≡ text.old.items ++ escaped_byte language byte) }
@@ -68,6 +108,7 @@ fn put_byte(text: &mut Vec<u8>, language: Language, byte: u8) -> Result<(), Allo
         Language::Html => put_html(text, byte),
         Language::Metrics => put_label(text, byte),
         Language::Plain => put_shown(text, byte),
+        Language::Json => put_json(text, byte),
     }
 }
 

@@ -5,6 +5,7 @@
 mod answers;
 mod escape;
 mod host;
+mod json;
 pub mod laws;
 mod metrics;
 mod page;

@@ -132,7 +132,7 @@ const FOLLOWERS: &[Piece] = &[
 ];
 
 /// All metrics.
-pub const METRICS: &[Section] = &[
+static METRICS: [Section; 16] = [
     Section::Once(SERVER),
     Section::Buckets(BUCKET),
     Section::Once(TURNS),
@@ -184,3 +184,8 @@ pub const METRICS: &[Section] = &[
         pieces: FOLLOWERS,
     }),
 ];
+
+/// All metrics.
+pub fn metrics() -> &'static [Section] {
+    &METRICS
+}

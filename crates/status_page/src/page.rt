@@ -38,8 +38,9 @@ const TOP: &[Piece] = &[
     Value(Place::Version),
     Text(b", serving for "),
     Value(Place::PassedAge),
+    Text(b"</p>\n<p>It looks since "),
     Value(Place::Since),
-    Text(b"</p>\n<ul><li><b>"),
+    Text(b": what came before that is not told.</p>\n<ul><li><b>"),
     Value(Place::OpenClients),
     Text(b"</b> clients</li><li><b>"),
     Value(Place::OpenFeeds),
@@ -140,7 +141,7 @@ const CLIENT: &[Piece] = &[
 ];
 
 /// The page.
-pub const PAGE: &[Section] = &[
+static PAGE: [Section; 7] = [
     Section::Once(TOP),
     Section::AwayAtAll(AWAY),
     Section::Once(STATIONS),
@@ -152,3 +153,8 @@ pub const PAGE: &[Section] = &[
     Section::Clients(CLIENT),
     Section::Once(&[Text(b"</table></div></body></html>\n")]),
 ];
+
+/// The page.
+pub fn page() -> &'static [Section] {
+    &PAGE
+}

@@ -4,8 +4,8 @@ ghost use Rattle.status_page.specs.Places.{bucket_text, client_text, count_text,
 ghost use Rattle.status_page.specs.Places.{flag_text, limit_text, station_text, value_text};
 
 use crate::texts::{
-    put_address, put_age, put_bars, put_last, put_micros, put_number, put_since, put_start,
-    put_stop, put_stop_seconds,
+    put_address, put_age, put_bars, put_known, put_last, put_micros, put_number, put_since,
+    put_start, put_start_known, put_stop, put_stop_seconds,
 };
 use crate::value::{
     ClientStatus, NamedCount, StationState, StationStatus, StatusValue, TurnBucket, count_in,
@@ -16,12 +16,13 @@ use std::alloc::AllocError;
 #[derive(Clone, Copy)]
 pub enum Place {
     /// Of a server: its title, the program with its version, how long it serves in seconds and in a unit that suits
-    /// it, and since when.
+    /// it, since when (`-` if that is not known), and the same with nothing if it is not.
     Title,
     Version,
     Passed,
     PassedAge,
     Since,
+    SinceKnown,
     /// After how many seconds without a record a station is silent of which the configuration says nothing else.
     SilentAfter,
     /// How many stations are heard, wait and are silent.
@@ -45,16 +46,19 @@ pub enum Place {
     /// `ok`, `waiting` or `silent`; and 1 if it is silent, else 0.
     State,
     IsSilent,
-    /// After how many seconds without a record it is silent; `-` if never.
+    /// After how many seconds without a record it is silent; `-` if never, and `null` if never.
     Limit,
+    LimitOrNull,
     /// How many of its records are held, how many are at most, the next number, and how many came.
     Held,
     Capacity,
     NextNumber,
     Came,
-    /// From when to when its last record goes; when it begins; when it ends, also in seconds since 1970.
+    /// From when to when its last record goes; when it begins, `-` without one, and nothing without one; when it ends,
+    /// also in seconds since 1970.
     Last,
     Start,
+    StartKnown,
     Stop,
     StopSeconds,
     /// How long ago its last record came, in seconds and in a unit that suits it.
@@ -120,6 +124,7 @@ fn put_server(text: &mut Vec<u8>, status: &StatusValue<'_>, place: Place) -> Res
         Place::Passed => put_number(text, status.passed),
         Place::PassedAge => put_age(text, status.passed),
         Place::Since => put_since(text, status.began),
+        Place::SinceKnown => put_known(text, status.began),
         Place::SilentAfter => put_number(text, status.silent_after),
         Place::HeardCount => put_count_in(text, status.stations, StationState::Heard),
         Place::WaitingCount => put_count_in(text, status.stations, StationState::Waiting),
@@ -154,12 +159,12 @@ fn flag_of(is_so: bool) -> &'static [u8]
 }
 
 /// A number of seconds, or what stands there without one.
-fn put_limit(text: &mut Vec<u8>, limit: Option<u64>) -> Result<(), AllocError>
-    ensures { OnOk result (text.new.items ≡ text.old.items ++ limit_text limit) }
+fn put_limit(text: &mut Vec<u8>, limit: Option<u64>, without: &[u8]) -> Result<(), AllocError>
+    ensures { OnOk result (text.new.items ≡ text.old.items ++ limit_text without.now limit) }
 {
     match limit {
         Some(seconds) => put_number(text, seconds),
-        None => text.extend_from_slice(b"-"),
+        None => text.extend_from_slice(without),
     }
 }
 
@@ -178,13 +183,15 @@ fn put_station(
         Place::Users => text.extend_from_slice(station.users),
         Place::State => text.extend_from_slice(word_of(station.state())),
         Place::IsSilent => text.extend_from_slice(flag_of(station.is_silent())),
-        Place::Limit => put_limit(text, station.silent_after),
+        Place::Limit => put_limit(text, station.silent_after, b"-"),
+        Place::LimitOrNull => put_limit(text, station.silent_after, b"null"),
         Place::Held => put_number(text, station.held),
         Place::Capacity => put_number(text, station.capacity),
         Place::NextNumber => text.extend_from_slice(&station.next_number),
         Place::Came => put_number(text, station.records),
         Place::Last => put_last(text, station.last),
         Place::Start => put_start(text, station.last),
+        Place::StartKnown => put_start_known(text, station.last),
         Place::Stop => put_stop(text, station.last),
         Place::StopSeconds => put_stop_seconds(text, station.last),
         Place::Silence => put_number(text, station.age),

@@ -8,6 +8,8 @@ const TOTALS: &[Piece] = &[
     Value(Place::Title),
     Text(b"\n"),
     Value(Place::Version),
+    Text(b"\nlooks since "),
+    Value(Place::Since),
     Text(b"\nseconds "),
     Value(Place::Passed),
     Text(b", clients "),
@@ -74,7 +76,7 @@ const CLIENT: &[Piece] = &[
 ];
 
 /// The two tables, of stations and of clients.
-pub const PLAIN: &[Section] = &[
+static PLAIN: [Section; 4] = [
     Section::Once(TOTALS),
     Section::Stations(StationRows {
         chosen: Chosen::All,
@@ -83,6 +85,25 @@ pub const PLAIN: &[Section] = &[
     Section::Once(&[Text(b"\nNUMBER\tHERE s\tNAMED\tAHEAD\tBYTES\tADDRESS\n")]),
     Section::Clients(CLIENT),
 ];
+
+/// The two tables, of stations and of clients.
+pub fn plain() -> &'static [Section] {
+    &PLAIN
+}
+
+/// The counts, and the table of the stations that are silent.
+static PLAIN_SILENT: [Section; 2] = [
+    Section::Once(TOTALS),
+    Section::Stations(StationRows {
+        chosen: Chosen::Silent,
+        pieces: STATION,
+    }),
+];
+
+/// The counts, and the table of the stations that are silent.
+pub fn plain_silent() -> &'static [Section] {
+    &PLAIN_SILENT
+}
 
 /// The line of a silent station.
 const SILENT_STATION: &[Piece] = &[
@@ -96,7 +117,7 @@ const SILENT_STATION: &[Piece] = &[
 ];
 
 /// How many stations are ok, waiting and silent, and which are silent.
-pub const HEALTH: &[Section] = &[
+static HEALTH: [Section; 2] = [
     Section::Once(&[
         Text(b"ok "),
         Value(Place::HeardCount),
@@ -111,3 +132,8 @@ pub const HEALTH: &[Section] = &[
         pieces: SILENT_STATION,
     }),
 ];
+
+/// How many stations are ok, waiting and silent, and which are silent.
+pub fn health() -> &'static [Section] {
+    &HEALTH
+}

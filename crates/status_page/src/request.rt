@@ -24,6 +24,10 @@ pub enum Target {
     Health,
     /// `/plain`: the two tables in plain text.
     Plain,
+    /// `/plain?state=silent`: the counts, and the table of the silent stations alone.
+    PlainSilent,
+    /// `/json`: what the two tables tell, as JSON.
+    Json,
     /// Nothing has that name.
     Missing,
     /// It is asked by another method than GET and HEAD.
@@ -58,6 +62,10 @@ fn target_of(path: &[u8]) -> Target
         Target::Health
     } else if path == b"/plain".as_slice() {
         Target::Plain
+    } else if path == b"/plain?state=silent".as_slice() {
+        Target::PlainSilent
+    } else if path == b"/json".as_slice() {
+        Target::Json
     } else {
         Target::Missing
     }

@@ -1,9 +1,10 @@
 //! Templates: texts with places for values. The template's own text stands as it is, and each value is escaped.
-ghost use Rattle.std.specs.Prelude.{◌≡◌, ◌++◌, OnOk};
+ghost use Rattle.std.specs.Prelude.{◌≡◌, ◌++◌, OnOk, flat_map};
 ghost use Rattle.status_page.specs.Places.{value_text};
-ghost use Rattle.status_page.specs.Templates.{bucket_row, bucket_rows, client_row, client_rows, count_row};
-ghost use Rattle.status_page.specs.Templates.{count_rows, counted_row, counted_rows, filled, is_chosen, piece_text};
-ghost use Rattle.status_page.specs.Templates.{row_text, section_text, station_row, station_rows};
+ghost use Rattle.status_page.specs.Templates.{bucket_row, bucket_rows, client_list, client_row, client_rows};
+ghost use Rattle.status_page.specs.Templates.{count_row, count_rows, counted_row, counted_rows, filled, is_chosen};
+ghost use Rattle.status_page.specs.Templates.{later_client, later_station, piece_text, row_text, section_text};
+ghost use Rattle.status_page.specs.Templates.{station_list, station_row, station_rows, text_or_null};
 
 use crate::escape::{Language, put_escaped};
 use crate::place::{Place, Row, put_value};
@@ -17,6 +18,8 @@ pub enum Piece {
     Text(&'static [u8]),
     /// A value, escaped.
     Value(Place),
+    /// A value of JSON: the value in double quotes, escaped, or `null` if it is empty.
+    TextOrNull(Place),
 }
 
 /// Which stations have a row.
@@ -42,6 +45,9 @@ pub enum Section {
     Once(&'static [Piece]),
     Stations(StationRows),
     Clients(&'static [Piece]),
+    /// All stations, and all clients, with a comma between two of them.
+    StationList(&'static [Piece]),
+    ClientList(&'static [Piece]),
     /// For each reason for which records are refused.
     Refusals(&'static [Piece]),
     /// For each reason for which connections are turned away.
@@ -50,6 +56,18 @@ pub enum Section {
     AwayAtAll(&'static [Piece]),
     /// For each bound of turns.
     Buckets(&'static [Piece]),
+}
+
+/// A value of JSON that may be missing.
+fn put_text_or_null(text: &mut Vec<u8>, language: Language, bytes: &[u8]) -> Result<(), AllocError>
+    ensures { OnOk result (text.new.items ≡ text.old.items ++ text_or_null language bytes.now) }
+{
+    if bytes.len() == 0 {
+        return text.extend_from_slice(b"null");
+    }
+    text.extend_from_slice(b"\"")?;
+    put_escaped(text, language, bytes)?;
+    text.extend_from_slice(b"\"")
 }
 
 /// A piece of a row. The value is written into a buffer of its own first.
@@ -68,6 +86,11 @@ fn put_piece(
             value.clear();
             put_value(value, row, *place)?;
             put_escaped(text, language, value.as_slice())
+        }
+        Piece::TextOrNull(place) => {
+            value.clear();
+            put_value(value, row, *place)?;
+            put_text_or_null(text, language, value.as_slice())
         }
     }
 }
@@ -162,6 +185,104 @@ fn put_clients(
         put_client(text, value, language, pieces, client)?;
     }
     Ok(())
+}
+
+/// The row of a station after the first, with a comma before it.
+#[tactic(auto, unfolding(crate::specs::Templates::later_station))]
+fn put_later_station(
+    text: &mut Vec<u8>,
+    value: &mut Vec<u8>,
+    language: Language,
+    pieces: &[Piece],
+    station: &StationStatus<'_>,
+) -> Result<(), AllocError>
+    ensures { OnOk result (text.new.items ≡ text.old.items ++ later_station language pieces.now station.now) }
+{
+    text.extend_from_slice(b",")?;
+    put_row(text, value, language, &Row::Station(station), pieces)
+}
+
+/// The rows of stations after the first.
+fn put_later_stations(
+    text: &mut Vec<u8>,
+    value: &mut Vec<u8>,
+    language: Language,
+    pieces: &[Piece],
+    stations: &[StationStatus<'_>],
+) -> Result<(), AllocError>
+    ensures { OnOk result
+        (text.new.items ≡ text.old.items ++ flat_map (later_station language pieces.now) stations.now) }
+{
+    for station in stations {
+        put_later_station(text, value, language, pieces, station)?;
+    }
+    Ok(())
+}
+
+/// The rows of all stations, with a comma between two of them.
+fn put_station_list(
+    text: &mut Vec<u8>,
+    value: &mut Vec<u8>,
+    language: Language,
+    pieces: &[Piece],
+    stations: &[StationStatus<'_>],
+) -> Result<(), AllocError>
+    ensures { OnOk result (text.new.items ≡ text.old.items ++ station_list language pieces.now stations.now) }
+{
+    let Some((first, others)) = stations.split_first() else {
+        return Ok(());
+    };
+    put_row(text, value, language, &Row::Station(first), pieces)?;
+    put_later_stations(text, value, language, pieces, others)
+}
+
+/// The row of a client after the first, with a comma before it.
+#[tactic(auto, unfolding(crate::specs::Templates::later_client))]
+fn put_later_client(
+    text: &mut Vec<u8>,
+    value: &mut Vec<u8>,
+    language: Language,
+    pieces: &[Piece],
+    client: &ClientStatus,
+) -> Result<(), AllocError>
+    ensures { OnOk result (text.new.items ≡ text.old.items ++ later_client language pieces.now client.now) }
+{
+    text.extend_from_slice(b",")?;
+    put_client(text, value, language, pieces, client)
+}
+
+/// The rows of clients after the first.
+fn put_later_clients(
+    text: &mut Vec<u8>,
+    value: &mut Vec<u8>,
+    language: Language,
+    pieces: &[Piece],
+    clients: &[ClientStatus],
+) -> Result<(), AllocError>
+    ensures { OnOk result
+        (text.new.items ≡ text.old.items ++ flat_map (later_client language pieces.now) clients.now) }
+{
+    for client in clients {
+        put_later_client(text, value, language, pieces, client)?;
+    }
+    Ok(())
+}
+
+/// The rows of all clients, with a comma between two of them.
+fn put_client_list(
+    text: &mut Vec<u8>,
+    value: &mut Vec<u8>,
+    language: Language,
+    pieces: &[Piece],
+    clients: &[ClientStatus],
+) -> Result<(), AllocError>
+    ensures { OnOk result (text.new.items ≡ text.old.items ++ client_list language pieces.now clients.now) }
+{
+    let Some((first, others)) = clients.split_first() else {
+        return Ok(());
+    };
+    put_client(text, value, language, pieces, first)?;
+    put_later_clients(text, value, language, pieces, others)
 }
 
 /// The row of a count.
@@ -271,6 +392,16 @@ fn put_section(
         Section::Once(pieces) => put_row(text, value, language, &Row::Server(status), pieces),
         Section::Stations(rows) => put_stations(text, value, language, rows, status.stations),
         Section::Clients(pieces) => put_clients(text, value, language, pieces, status.clients),
+        Section::StationList(pieces) => {
+            put_station_list(text, value, language, pieces, status.stations)
+        }
+        Section::ClientList(pieces) => put_client_list(
+            text,
+            value,
+            language,
+            pieces,
+            status.clients,
+        ),
         Section::Refusals(pieces) => put_counts(text, value, language, pieces, status.refusals),
         Section::Away(pieces) => put_counts(text, value, language, pieces, status.away),
         Section::AwayAtAll(pieces) => put_counted(text, value, language, pieces, status.away),

@@ -1,7 +1,7 @@
 //! The texts of numbers, moments and lengths of time.
 ghost use Rattle.std.specs.Prelude.{◌≡◌, ◌+◌, ◌/◌, ◌%◌, ◌<◌, ◌++◌, OnOk, decimal};
-ghost use Rattle.status_page.specs.Texts.{address_text, age_text, bar_text, bars_text, digit_at, last_text};
-ghost use Rattle.status_page.specs.Texts.{micros_text, number_and, since_text, six_digits, span_text, start_text};
+ghost use Rattle.status_page.specs.Texts.{address_text, age_text, bar_text, bars_text, digit_at, known_text, last_text};
+ghost use Rattle.status_page.specs.Texts.{micros_text, number_and, since_text, six_digits, span_text, start_known, start_text};
 ghost use Rattle.status_page.specs.Texts.{stop_seconds, stop_text, unix_seconds};
 ghost use Rattle.status_page.specs.Values.{busiest};
 
@@ -81,16 +81,23 @@ pub fn put_unix_seconds(text: &mut Vec<u8>, moment: Tick) -> Result<(), AllocErr
     }
 }
 
-/// Since when a server serves, if the clock said so.
+/// A moment, if it is known.
+pub fn put_known(text: &mut Vec<u8>, moment: Option<Tick>) -> Result<(), AllocError>
+    ensures { OnOk result (text.new.items ≡ text.old.items ++ known_text moment) }
+{
+    match moment {
+        Some(moment) => put_moment(text, moment),
+        None => Ok(()),
+    }
+}
+
+/// Since when a server serves; `-` if the clock did not say so.
 pub fn put_since(text: &mut Vec<u8>, began: Option<Tick>) -> Result<(), AllocError>
     ensures { OnOk result (text.new.items ≡ text.old.items ++ since_text began) }
 {
     match began {
-        Some(began) => {
-            text.extend_from_slice(b", since ")?;
-            put_moment(text, began)
-        }
-        None => Ok(()),
+        Some(began) => put_moment(text, began),
+        None => text.extend_from_slice(b"-"),
     }
 }
 
@@ -120,6 +127,16 @@ pub fn put_start(text: &mut Vec<u8>, last: Option<LastRecord>) -> Result<(), All
     match last {
         Some(last) => put_moment(text, last.start),
         None => text.extend_from_slice(b"-"),
+    }
+}
+
+/// When the last record begins, if there is one, and nothing without one.
+pub fn put_start_known(text: &mut Vec<u8>, last: Option<LastRecord>) -> Result<(), AllocError>
+    ensures { OnOk result (text.new.items ≡ text.old.items ++ start_known last) }
+{
+    match last {
+        Some(last) => put_moment(text, last.start),
+        None => Ok(()),
     }
 }
 

@@ -5,6 +5,7 @@ use Rattle.status_page.specs.Values.{any_silent}
 use Rattle.status_page.specs.declared.answers.Templates.{Templates}
 use Rattle.status_page.specs.declared.request.Target.{Target}
 use Rattle.status_page.specs.declared.request.Target.TheVariants.{Page, PageByAge, Metrics, Health, Plain}
+use Rattle.status_page.specs.declared.request.Target.TheVariants.{PlainSilent, Json}
 use Rattle.status_page.specs.declared.value.StatusValue.{StatusValue}
 use Rattle.status_ports.specs.KeptValues.{KeptValue}
 use Rattle.status_ports.specs.declared.kept.Found.{Found}
@@ -34,6 +35,8 @@ place_of PageByAge = Some 1
 place_of Metrics = Some 2
 place_of Health = Some 3
 place_of Plain = Some 4
+place_of PlainSilent = Some 5
+place_of Json = Some 6
 place_of _ = None
 
 -- the text that is kept for a target

@@ -100,7 +100,7 @@ pub enum Found<'k> {
 }
 
 /// How many answers tell of a server.
-const ANSWERS: usize = 5;
+const ANSWERS: usize = 7;
 
 /// Where the text for a target stands. A refusal has none.
 fn place_of(target: Target) -> Option<usize>
@@ -112,6 +112,8 @@ fn place_of(target: Target) -> Option<usize>
         Target::Metrics => Some(2),
         Target::Health => Some(3),
         Target::Plain => Some(4),
+        Target::PlainSilent => Some(5),
+        Target::Json => Some(6),
         _ => None,
     }
 }
@@ -134,7 +136,7 @@ impl Model for KeptTexts {
 impl KeptTexts {
     /// None was made. Only memory can lack.
     pub fn new(alloc: Global) -> Result<KeptTexts, AllocError>
-        ensures { IfOk result (λ kept. kept ≡ replicate 5 no_text) }
+        ensures { IfOk result (λ kept. kept ≡ replicate 7 no_text) }
     {
         let mut texts = Vec::with_capacity(alloc, ANSWERS)?;
         for _ in 0..ANSWERS {

@@ -103,7 +103,7 @@ fn answer_one(
             let is_silent = text.is_silent();
             slot.answer(
                 &mut scratch.value,
-                all_templates(),
+                &all_templates(),
                 request,
                 is_silent,
                 text.body(),
@@ -113,8 +113,8 @@ fn answer_one(
         Found::Missing => Some(request),
         Found::Refusal => {
             let Scratch { refusal, value } = scratch;
-            if write_refusal(refusal, value, all_templates(), request.target).is_ok() {
-                slot.answer(value, all_templates(), request, false, refusal.as_slice());
+            if write_refusal(refusal, value, &all_templates(), request.target).is_ok() {
+                slot.answer(value, &all_templates(), request, false, refusal.as_slice());
             }
             None
         }

@@ -180,7 +180,7 @@ impl StatusPorts {
     {
         let value = &mut self.scratch.value;
         let target = asked.request.target;
-        match self.kept.make(value, all_templates(), target, status, now) {
+        match self.kept.make(value, &all_templates(), target, status, now) {
             Ok(()) => {
                 let _missing = self.serve(now);
             }
