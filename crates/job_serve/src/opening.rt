@@ -14,7 +14,8 @@ use command_line::ServeOptions;
 use config_explained::{ConfigText, Remarked, open_to_everybody};
 use incidents::Incident;
 use job_base::{
-    ServerAddress, checked_config_at, plain_at, server_of, tell_list_remarks, tell_remarks,
+    ServerAddress, config_at, judged_config_at, plain_at, server_of, tell_list_remarks,
+    tell_remarks, tell_unknown_keys,
 };
 use ports_socket::Admission;
 use std::alloc::Global;
@@ -76,12 +77,27 @@ pub struct ServedFiles<'a> {
     pub numbers: Option<Box<NumberFile<'a>>>,
 }
 
-/// Reads the files that the words name. The keys of the configuration that are not known are named, and so are entries
-/// of lists that admit something else than they look like. A configuration that is to be read again has to be a plain
-/// file. Where the words name a file of numbers, they are kept there.
+/// The configuration in a file. If it is refused for several faults, each is named, if faults are explained.
+fn config_of<'a>(
+    rt: &HostRuntime,
+    path: &'a str,
+    is_verbose: bool,
+) -> Result<ConfigText, Incident<'a>> {
+    if is_verbose {
+        judged_config_at(rt, path)
+    } else {
+        config_at(rt, path)
+    }
+}
+
+/// Reads the files that the words name. If the configuration is refused, and faults are explained, each of its faults is
+/// named. The keys of the configuration that are not known are named, and so are entries of lists that admit something
+/// else than they look like. A configuration that is to be read again has to be a plain file. Where the words name a file
+/// of numbers, they are kept there.
 pub fn served_by<'a>(
     rt: &HostRuntime,
     options: &ServeOptions<'a>,
+    is_verbose: bool,
 ) -> Result<Served<'a>, Incident<'a>>
     ensures numbers { IfOk result (λ served. is_some served.files.numbers ≡ is_some options.now.numbers) }
     ensures in_force { IfOk result (λ served. served.files.in_force ≡ served.config) }
@@ -89,7 +105,8 @@ pub fn served_by<'a>(
     if options.reread.is_some() {
         plain_at(rt, options.config)?;
     }
-    let read = checked_config_at(rt, options.config, options.is_strict)?;
+    let read = config_of(rt, options.config, is_verbose)?;
+    tell_unknown_keys(rt, options.config, &read, options.is_strict)?;
     tell_lists(rt, options, &read);
     let open = open_for(rt.alloc(), options, &read)?;
     tell_missing(rt, read.config().max_connections());

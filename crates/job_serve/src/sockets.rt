@@ -77,7 +77,10 @@ fn ports_at<'a>(
 /// Serves clients and feeds as the words say, and then sends what was not sent yet.
 pub fn serve_sockets<'a>(rt: &HostRuntime, request: ServeRequest<'a>) -> Result<(), Incident<'a>> {
     let doors = doors_of(rt.alloc(), &request.options)?;
-    match Box::new(rt.alloc(), served_by(rt, &request.options)?) {
+    match Box::new(
+        rt.alloc(),
+        served_by(rt, &request.options, request.is_verbose)?,
+    ) {
         Ok(served) => serve_doors(rt, request, doors, served),
         Err(_) => Err(no_memory()),
     }
