@@ -1,5 +1,5 @@
 -- Worked words of a command line.
-use Rattle.std.specs.Prelude.{◌≡◌, refl, List, [], ◌∷◌, Some, None, true, false, codes}
+use Rattle.std.specs.Prelude.{◌≡◌, ◌++◌, refl, List, [], ◌∷◌, Some, None, true, false, codes}
 use Rattle.clap.specs.Words.{Text, fault_of}
 use Rattle.clap.specs.declared.error.ErrorKind.TheVariants.{DisplayVersion, MissingRequiredArgument, UnknownArgument}
 use Rattle.clap.specs.declared.error.ErrorKind.TheVariants.{ValueValidation}
