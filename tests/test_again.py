@@ -136,7 +136,7 @@ class Again(kit.Test):
         kit.write("state", "GE WLF 000009 -\n#\n%s 20\n" % name)
         ended = self.fetch(self.server_of(20), "GE_WLF", *into)
         self.assert_once(path, 20)
-        self.assertEqual(ended.said, "seedlinkd: 15 records in %s, where 20 were counted\n" % path)
+        self.assertEqual(ended.said, "seedlinkd: 15 records, where 20 were counted, in %s\n" % path)
 
     @kit.rows([INTO[0] + ("",), INTO[1] + ("#\n- 0\n",)])
     def test_a_hole_is_filled(self, into, path, _, lengths):

@@ -93,7 +93,8 @@ ADMITTED = [
     (" ", "10.0.0.7", False), (" , ,", "10.0.0.7", False), ("1.2.3.4/08", "1.9.9.9", True), ("1.2.3.4/08", "2.2.3.4", False),
 ]
 # Invalid lists, the first entry that is, and whether its address or its mask is wrong.
-ADDRESS, MASK = "address before", "mask behind"
+ADDRESS = "is no address, network or group; everybody is 0.0.0.0/0, and no name of a host is taken"
+MASK = "has no mask of 0 to 32, or of four numbers, after its slash"
 INVALID = [
     ("10.0.0/8", "10.0.0/8", ADDRESS), ("256.0.0.1", "256.0.0.1", ADDRESS), ("1.2.3", "1.2.3", ADDRESS),
     ("1.2.3.4.5", "1.2.3.4.5", ADDRESS),
@@ -175,8 +176,8 @@ class Configurations(kit.Test):
     @kit.rows([(it[0], *it) for it in INVALID])
     def test_an_invalid_access_list(self, entries, entry, cause):
         ended = self.run_program("-v", "view", kit.write("centre.toml", with_line("own access", 'access = "%s"' % entries)))
-        self.assert_ends(ended, 1, "seedlinkd: 24 Access\n  cause: an access list is refused: a token has no %s its first slash\n" % cause,
-                         "  entry: %s\n" % entry)
+        causes = () if kit.is_release() else ("  cause: an entry %s\n" % cause,)
+        self.assert_ends(ended, 1, "seedlinkd: 24 Access\n", *causes, "  entry: %s\n" % entry)
 
     def test_stations_are_found_by_their_codes(self):
         script = "open 10.0.0.7\n" + "".join("line 0 STATION %s %s\ntake 0 9\n" % it[:2] for it in FOUND)

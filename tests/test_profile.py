@@ -83,6 +83,27 @@ def config_with(example, is_entry):
     return re.sub(r"^%s = .*$" % key, line, ISLAND, count=1, flags=re.M)
 
 
+# ---- options
+
+
+def options_of_page(command):
+    """The options in the table of a command, and what holds without each."""
+    section = text_of("docs/COMMANDS.md").split("\n## %s\n" % command)[1].split("\n## ")[0]
+    table = section.partition("| Option | Without it | What it does |\n")[2].split("\n\n")[0]
+    return [(name, without.replace("`", "")) for name, without in re.findall(r"^\| `--([a-z-]+)[^|]*\| ([^|]*) \|", table, re.M)]
+
+
+def options_of_help(text):
+    """The same of a command's help; `needed` of an option that has to be there."""
+    found = []
+    for part in re.split(r"^ +(?:-., )?(?=--)", text.partition("\nOptions:\n")[2], flags=re.M)[1:]:
+        name = re.match(r"--([a-z-]+)", part).group(1)
+        default = re.search(r"\(default: ([^()]*)\)$", " ".join(part.split()))
+        if name not in ("verbose", "help"):
+            found.append((name, default.group(1) if default else "needed"))
+    return found
+
+
 class Tables(kit.Test):
     def test_each_fault_of_the_program_stands_in_a_table(self):
         self.assertEqual(sorted(faults_of_tables()), sorted(faults_of_sources()))
@@ -103,6 +124,20 @@ class Tables(kit.Test):
             kit.write("config.toml", config_with(example, is_entry))
             ended = self.run_program("replay", "config.toml", "/dev/null")
             self.assertEqual((ended.said, ended.status), ("seedlinkd: %s\n" % fault, 1), example)
+
+    @kit.unreleased
+    def test_what_holds_without_an_option_is_what_help_says(self):
+        for command in JOBS:
+            with self.subTest(command=command):
+                helped = options_of_help(self.run_program(command, "--help").printed)
+                self.assertGreaterEqual(len(helped), 1)
+                self.assertEqual(sorted(helped), sorted(options_of_page(command)))
+
+    @kit.unreleased
+    def test_lines_of_help_fit_a_terminal(self):
+        for words in ((), *((it,) for it in (*JOBS, "status"))):
+            for line in self.run_program(*words, "--help").printed.splitlines():
+                self.assertTrue(len(line) <= 80 or line.startswith("Usage:"), line)
 
     @kit.unreleased
     def test_usages_are_those_of_help(self):
@@ -199,6 +234,7 @@ class Explained(kit.Test):
         }
         return servers[fault, job]() if (fault, job) in servers else None
 
+    @kit.unreleased
     @kit.rows([("%s of %s" % (fault_of(lines), job_of(words)), at) for at, (words, lines) in enumerate(explained())])
     @kit.limit(30)
     def test_example(self, at):
@@ -222,6 +258,7 @@ class Explained(kit.Test):
             text = text.replace(real, shown)
         self.assertTrue(is_as(text.splitlines(), wanted), "%s\nis printed, and the page has\n%s" % (text, "\n".join(wanted)))
 
+    @kit.unreleased
     def test_a_who_of_view_that_is_no_address_and_no_file(self):
         kit.write("island.toml", ISLAND)
         ended = self.run_program("-v", "view", "island.toml", "10.0.0.300")
@@ -230,7 +267,7 @@ class Explained(kit.Test):
             "  cause: a word is no address and no network, and there is no such file",
             "  file: 10.0.0.300",
             "  reason: No such file or directory (os error 2)",
-            "  allowed: an address as 10.0.0.7, a network as 10.0.0.0/8, or the file of another configuration",
+            "  allowed: an address as 10.0.0.7, a network as 10.0.0.0/8 (0 to 32), or the file of another configuration",
         ])
 
     def reread(self):

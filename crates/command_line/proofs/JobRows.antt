@@ -2,11 +2,10 @@
 use Rattle.std.specs.Prelude.{◌≡◌, ◌++◌, refl, List, [], ◌∷◌, Some, None, true, false, codes}
 use Rattle.clap.specs.Words.{Text, fault_of}
 use Rattle.clap.specs.declared.error.ErrorKind.TheVariants.{DisplayVersion, MissingRequiredArgument, UnknownArgument}
-use Rattle.clap.specs.declared.error.ErrorKind.TheVariants.{ValueValidation}
 use Rattle.clap.proofs.OnLiterals.{clap_on_literals}
 use Rattle.text_parts.specs.declared.period.Period.TheVariants.{Seconds, Turns}
 use Rattle.command_line.specs.Commands.{program_app}
-use Rattle.command_line.specs.Jobs.{period_of, job_of, verbose_of}
+use Rattle.command_line.specs.Jobs.{period_of, seconds_of, job_of, verbose_of}
 use Rattle.command_line.specs.Jobs.{CheckAsked, FeedAsked, ReadAsked, ServeAsked, ViewAsked}
 use Rattle.command_line.specs.Jobs.Asked.{Check, Replay, View, Serve, Feed, Read, Status}
 
@@ -137,6 +136,21 @@ seconds_and_more = refl
 
 pub half_a_second : period_of (codes "0.5s") ≡ None
 half_a_second = refl
+
+pub ten_minutes : period_of (codes "10m") ≡ Some (Seconds 600)
+ten_minutes = refl
+
+pub two_hours : seconds_of (codes "2h") ≡ Some 7200
+two_hours = refl
+
+pub ninety_seconds : seconds_of (codes "90") ≡ Some 90
+ninety_seconds = refl
+
+pub too_many_hours : seconds_of (codes "277778h") ≡ None
+too_many_hours = refl
+
+pub no_unit : seconds_of (codes "9d") ≡ None
+no_unit = refl
 
 abbrev numbers_words : List Text
 numbers_words =
@@ -327,7 +341,7 @@ unfolding clap_on_literals
 retry_asked = refl
 
 abbrev timeout_words : List Text
-timeout_words = codes "seedlinkd" ∷ codes "read" ∷ codes "a,b" ∷ codes "GE_WLF" ∷ codes "--timeout=30" ∷ []
+timeout_words = codes "seedlinkd" ∷ codes "read" ∷ codes "a,b" ∷ codes "GE_WLF" ∷ codes "--timeout=30s" ∷ []
 
 pub timeout_asked : job_of timeout_words
     ≡ Some (Read (codes "a,b") (codes "GE_WLF" ∷ []) (record plain_read { timeout = Some 30 }))
@@ -381,9 +395,9 @@ unfolding clap_on_literals
 one_text_too_many = refl
 
 pub no_turns :
-    fault_of program_app (codes "seedlinkd" ∷ codes "serve" ∷ codes "c" ∷ codes "--listen=a" ∷ codes "--feed=b"
+    job_of (codes "seedlinkd" ∷ codes "serve" ∷ codes "c" ∷ codes "--listen=a" ∷ codes "--feed=b"
     ∷ codes "--turns=0" ∷ [])
-    ≡ ValueValidation ∷ []
+    ≡ None
 unfolding clap_on_literals
 no_turns = refl
 

@@ -3,7 +3,6 @@ use Rattle.std.specs.Prelude.{List, [], ◌∷◌, Bool, Some, true, false, code
 use Rattle.clap.specs.Lexer.{usize_max}
 use Rattle.clap.specs.Words.{App, Rule, Text, new_app, new_rule, with_rule, with_subcommand}
 use Rattle.clap.specs.declared.builder.ArgAction.TheVariants.{SetTrue}
-use Rattle.clap.specs.declared.builder.value_parser.ValueParser.TheVariants.{Unsigned}
 use Rattle.command_line.specs.declared.argument.Argument.{Argument}
 use Rattle.command_line.specs.declared.argument.Argument.TheVariants as row
 
@@ -25,10 +24,6 @@ flag_rule name = record (new_rule name) { long = Some name; action = Some SetTru
 abbrev pub option : Bool → Text → Rule
 option required name = record (new_rule name) { long = Some name; value_names = 1; required = required }
 
--- an option `--name N` with a number from 1 to 1,000,000,000
-abbrev pub number_rule : Text → Rule
-number_rule name = record (option false name) { parser = Some (Unsigned 1 1000000000) }
-
 -- `-v` or `--verbose`
 abbrev pub verbose_rule : Rule
 verbose_rule =
@@ -43,7 +38,6 @@ rule_by (row.Any name help) = several (new_rule name.now)
 rule_by (row.Flag name help) = flag_rule name.now
 rule_by (row.Needed name value help) = option true name.now
 rule_by (row.Value name value help) = option false name.now
-rule_by (row.Number name help) = number_rule name.now
 
 -- ---- commands
 
@@ -94,17 +88,17 @@ serve_app = app_by (codes "serve") (
     wanted (codes "CONFIG")
     ∷ option true (codes "listen")
     ∷ option true (codes "feed")
-    ∷ number_rule (codes "turns")
+    ∷ option false (codes "turns")
     ∷ option false (codes "reread")
     ∷ option false (codes "report")
     ∷ option false (codes "feed-from")
-    ∷ number_rule (codes "per-address")
+    ∷ option false (codes "per-address")
     ∷ option false (codes "numbers")
     ∷ flag_rule (codes "log")
     ∷ option false (codes "status")
     ∷ option false (codes "status-from")
     ∷ option false (codes "status-name")
-    ∷ number_rule (codes "silent")
+    ∷ option false (codes "silent")
     ∷ flag_rule (codes "strict")
     ∷ [])
 
@@ -113,11 +107,11 @@ abbrev pub feed_app : App
 feed_app = app_by (codes "feed") (
     wanted (codes "SERVER")
     ∷ several (wanted (codes "FILE"))
-    ∷ number_rule (codes "from")
+    ∷ option false (codes "from")
     ∷ option false (codes "config")
     ∷ flag_rule (codes "strict")
     ∷ flag_rule (codes "skip")
-    ∷ number_rule (codes "timeout")
+    ∷ option false (codes "timeout")
     ∷ [])
 
 -- `read A:P,.. WANT.. ..`
@@ -128,8 +122,8 @@ read_app = app_by (codes "read") (
     ∷ flag_rule (codes "fetch")
     ∷ option false (codes "begin")
     ∷ option false (codes "end")
-    ∷ number_rule (codes "retry")
-    ∷ number_rule (codes "timeout")
+    ∷ option false (codes "retry")
+    ∷ option false (codes "timeout")
     ∷ option false (codes "wants")
     ∷ option false (codes "archive")
     ∷ option false (codes "state")

@@ -2,7 +2,8 @@
 -- number stands at each of its arguments.
 use Rattle.std.specs.Prelude.{◌≡◌, ◌⊎◌, ◌&&◌, ◌||◌, not, is_some, ℕ, Bool, true, false, List, [], map}
 use Rattle.std.specs.Prelude.{Option, Some, None, option_map}
-use Rattle.std.specs.Prelude.{◌∷◌, ◌+◌, ◌==◌, if◌then◌else◌, codes, drop, nat_lt, length, option_and_then, position, take}
+use Rattle.std.specs.Prelude.{◌-◌, ◌*◌, ◌==◌, if◌then◌else◌, codes, nat_lt, length, option_and_then, slice_index}
+use Rattle.std.specs.Prelude.{take}
 use Rattle.std.specs.Prelude.{IsSome}
 use Rattle.std.specs.Option.{option_map_or}
 use Rattle.std.specs.Str.{bytes_eq}
@@ -241,21 +242,47 @@ spelled read (Some text) = option_map Some (read text)
 abbrev pub number_in : Text → List Row → Option (Option ℕ)
 number_in name rows = spelled number_of (first_of name rows)
 
-abbrev pub is_s : ℕ → Bool
-is_s b = b == 115
+-- how many seconds a unit has: s (115), m (109) or h (104)
+abbrev pub seconds_in_unit : ℕ → Option ℕ
+seconds_in_unit b =
+    if b == 115 then Some 1 else if b == 109 then Some 60 else if b == 104 then Some 3600 else None
 
--- so many seconds, if nothing is behind the s
-abbrev pub seconds_if : List ℕ → List ℕ → Option Period
-seconds_if [] digits = option_map Seconds (number_of digits)
-seconds_if (b ∷ bs) digits = None
+-- so many seconds, if they are not more than 1,000,000,000
+abbrev pub within_most : ℕ → Option ℕ
+within_most n = if nat_lt 1000000000 n then None else Some n
 
--- how often, by the place of the first s: a number of seconds is before it, and without one it is of turns
-abbrev pub period_at : List ℕ → Option ℕ → Option Period
-period_at text None = option_map Turns (number_of text)
-period_at text (Some s) = seconds_if (drop (s + 1) text) (take s text)
+-- so many units of so many seconds
+abbrev pub units : Option ℕ → Option ℕ → Option ℕ
+units (Some unit) (Some n) = within_most (n * unit)
+units _ _ = None
 
+-- the seconds that a text spells whose last byte is a unit
+abbrev pub time_of : List ℕ → Option ℕ
+time_of text =
+    if length text == 0 then None
+    else units (seconds_in_unit (slice_index text (length text - 1))) (number_of (take (length text - 1) text))
+
+-- the one if it is there, else the other
+abbrev pub or_else : Option ℕ → Option ℕ → Option ℕ
+or_else (Some n) other = Some n
+or_else None other = other
+
+-- the seconds that a text spells, with a unit or without
+abbrev pub seconds_of : List ℕ → Option ℕ
+seconds_of text = or_else (number_of text) (time_of text)
+
+-- the seconds that an option has
+abbrev pub seconds_in : Text → List Row → Option (Option ℕ)
+seconds_in name rows = spelled seconds_of (first_of name rows)
+
+-- how often: so many turns, or else so many seconds
+abbrev pub often : Option ℕ → Option ℕ → Option Period
+often (Some turns) seconds = Some (Turns turns)
+often None seconds = option_map Seconds seconds
+
+-- how often a text says: without a unit it is turns
 abbrev pub period_of : List ℕ → Option Period
-period_of text = period_at text (position is_s text)
+period_of text = often (number_of text) (time_of text)
 
 -- how often an option says
 abbrev pub period_in : Text → List Row → Option (Option Period)
@@ -299,13 +326,13 @@ abbrev pub serve_asked : List Row → Option Asked
 serve_asked rows =
     with_server (first_of (codes "CONFIG") rows) (first_of (codes "listen") rows) (first_of (codes "feed") rows)
     (number_in (codes "turns") rows) (period_in (codes "reread") rows) (period_in (codes "report") rows)
-    (number_in (codes "per-address") rows) (number_in (codes "silent") rows) rows
+    (number_in (codes "per-address") rows) (seconds_in (codes "silent") rows) rows
 
 -- the options of `feed`, unless both `--strict` and `--skip` were given
 abbrev pub one_way : FeedAsked → Option FeedAsked
 one_way o = if o.is_strict && o.skips then None else Some o
 
--- the options of `feed`, as they stand there, if both numbers are numbers
+-- the options of `feed`, as they stand there, if both texts are numbers
 abbrev pub feed_options_with : (from timeout : Option (Option ℕ)) → List Row → Option FeedAsked
 feed_options_with None timeout rows = None
 feed_options_with (Some from) None rows = None
@@ -319,7 +346,7 @@ feed_options_with (Some from) (Some timeout) rows =
     })
 
 abbrev pub feed_options_in : List Row → Option FeedAsked
-feed_options_in rows = feed_options_with (number_in (codes "from") rows) (number_in (codes "timeout") rows) rows
+feed_options_in rows = feed_options_with (number_in (codes "from") rows) (seconds_in (codes "timeout") rows) rows
 
 -- a feeder's job, where all of it is there
 abbrev pub with_files : Option (List ℕ) → Option (List (List ℕ)) → Option FeedAsked → Option Asked
@@ -353,7 +380,7 @@ options_with (Some retry) (Some timeout) rows =
     })
 
 abbrev pub options_in : List Row → Option ReadAsked
-options_in rows = options_with (number_in (codes "retry") rows) (number_in (codes "timeout") rows) rows
+options_in rows = options_with (seconds_in (codes "retry") rows) (seconds_in (codes "timeout") rows) rows
 
 -- They go on by numbers after a break.
 abbrev pub goes_on : ReadAsked → Bool

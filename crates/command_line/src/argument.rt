@@ -1,9 +1,8 @@
 //! What an argument of a command is, as `clap` has it.
 ghost use Rattle.std.specs.Prelude.{◌≡◌, codes, false};
 ghost use Rattle.clap.specs.Words.{new_rule, rule_of};
-ghost use Rattle.command_line.specs.Commands.{flag_rule, number_rule, option, rule_by, several, verbose_rule, wanted};
+ghost use Rattle.command_line.specs.Commands.{flag_rule, option, rule_by, several, verbose_rule, wanted};
 
-use clap::builder::ValueParser;
 use clap::{Arg, ArgAction};
 use std::alloc::Global;
 
@@ -24,8 +23,6 @@ pub enum Argument<'a> {
     Needed(&'a str, &'a str, &'a str),
     /// `[--name VALUE]`.
     Value(&'a str, &'a str, &'a str),
-    /// `[--name N]`, a number from 1 to 1,000,000,000.
-    Number(&'a str, &'a str),
 }
 
 /// A text that has to be there.
@@ -89,14 +86,6 @@ fn option<'a>(
         .help(help)
 }
 
-/// An option `--name N` with a number.
-fn number<'a>(alloc: Global, name: &'a str, help: &'a str) -> Arg<'a>
-    ensures rule { rule_of result ≡ number_rule name.entry.now }
-    ensures own { result.global ≡ false }
-{
-    option(alloc, name, "N", false, help).value_parser(ValueParser::Unsigned(1, 1_000_000_000))
-}
-
 /// The flag `-v` or `--verbose`, which each command has.
 pub fn verbose<'a>(alloc: Global) -> Arg<'a>
     ensures rule { rule_of result ≡ verbose_rule }
@@ -123,7 +112,6 @@ impl<'a> Argument<'a> {
             Argument::Flag(name, help) => flag(alloc, name, help),
             Argument::Needed(name, value, help) => option(alloc, name, value, true, help),
             Argument::Value(name, value, help) => option(alloc, name, value, false, help),
-            Argument::Number(name, help) => number(alloc, name, help),
         }
     }
 }

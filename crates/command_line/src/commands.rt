@@ -76,15 +76,14 @@ fn check_command<'a>(alloc: Global) -> Built<'a>
 fn replay_command<'a>(alloc: Global) -> Built<'a>
     ensures { Builds result replay_app }
 {
-    let about = "Replays a script against a server and prints what each client receives, in hex";
+    let about = "Replays a script against a server and prints what each client\nreceives, in hex";
     command_by(alloc, "replay", about, &REPLAY)
 }
 
 fn view_command<'a>(alloc: Global) -> Built<'a>
     ensures { Builds result view_app }
 {
-    let about =
-        "Lists the stations that an address sees, what another CONFIG changes, or all with their lists";
+    let about = "Lists the stations that an address sees, what another CONFIG changes,\nor all";
     command_by(alloc, "view", about, &VIEW)
 }
 
@@ -125,7 +124,7 @@ fn status_command<'a>(alloc: Global) -> Built<'a>
     ensures { Builds result status_app }
 {
     let about =
-        "Prints how a server stands, by its status port; ends with 3 if a station is silent";
+        "Prints how a server stands, by its status port; ends with 3 if a station\nis silent";
     command_by(alloc, "status", about, &STATUS)
 }
 
@@ -149,7 +148,7 @@ pub fn command_named<'a>(alloc: Global, name: &str) -> Built<'a> {
     command_of(alloc, name)?.bin_name(whole.as_str())
 }
 
-/// The program before it has arguments and subcommands.
+/// The program before it has arguments and subcommands. Its usage has this name, whatever the file is called.
 #[tactic(auto, unfolding(crate::specs::Building::Builds))]
 fn bare<'a>(alloc: Global) -> Built<'a>
     ensures { Builds result bare_app }
@@ -159,7 +158,7 @@ fn bare<'a>(alloc: Global) -> Built<'a>
         .after_help(MORE_HELP)
         .version(VERSION)
         .subcommand_required(true);
-    Ok(bare)
+    bare.bin_name("seedlinkd")
 }
 
 /// A command with one more subcommand.

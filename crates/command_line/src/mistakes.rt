@@ -1,17 +1,70 @@
-//! What the user is told of words that `clap` takes and that are no job.
+//! What the user is told of words that are no job.
 use crate::commands::command_named;
 use crate::job::ReadOptions;
-use crate::words::{names_nothing, number_in, period_in, read_options, text_at, texts_at};
+use crate::words::{
+    names_nothing, number_in, period_in, read_options, seconds_in, text_at, texts_at,
+};
 use clap::ArgMatches;
 use clap::error::ErrorKind;
 use std::alloc::{AllocError, Global};
+use std::fmt::{self, Display, Formatter, Write};
 
-/// What a number has to be.
-const NUMBER: &str = "a number is 1 to 1000000000, in 1 to 10 decimal digits";
+/// An option whose text is a number, by its name.
+#[derive(Clone, Copy, Drop)]
+enum Counted {
+    /// A number from 1 to 1,000,000,000.
+    Number(&'static str),
+    /// A length of time.
+    Seconds(&'static str),
+    /// A number of turns or a length of time.
+    Period(&'static str),
+}
 
-/// What a period has to be.
-const PERIOD: &str =
-    "a period is N turns, as 600, or N seconds, as 60s, with N from 1 to 1000000000 in 1 to 10 decimal digits";
+/// Those of all commands.
+static COUNTED: [Counted; 8] = [
+    Counted::Number("turns"),
+    Counted::Period("reread"),
+    Counted::Period("report"),
+    Counted::Number("per-address"),
+    Counted::Seconds("silent"),
+    Counted::Number("from"),
+    Counted::Seconds("retry"),
+    Counted::Seconds("timeout"),
+];
+
+impl Counted {
+    /// Whether the option has a text that is not one.
+    fn is_wrong(self, arguments: &ArgMatches<'_>) -> bool {
+        match self {
+            Counted::Number(name) => number_in(arguments, name).is_none(),
+            Counted::Seconds(name) => seconds_in(arguments, name).is_none(),
+            Counted::Period(name) => period_in(arguments, name).is_none(),
+        }
+    }
+}
+
+impl Display for Counted {
+    fn fmt<W: Write>(&self, f: &mut Formatter<W>) -> fmt::Result {
+        match self {
+            Counted::Number(name) => write!(f, "--{name} takes a number from 1 to 1000000000"),
+            Counted::Seconds(name) => write!(f, "--{name} takes seconds, as 600 or 10m"),
+            Counted::Period(name) => write!(
+                f,
+                "--{name} takes turns, as 600, or a time, as 60s, 10m or 2h"
+            ),
+        }
+    }
+}
+
+/// The first option with a number whose text is not one.
+fn wrong_count(arguments: &ArgMatches<'_>) -> Option<Counted> {
+    for option in &COUNTED {
+        if option.is_wrong(arguments) {
+            return Some(*option);
+        }
+    }
+    None
+}
 
 /// What is wrong with an end, if something is.
 fn end_mistake(options: &ReadOptions<'_>) -> &'static str {
@@ -29,7 +82,7 @@ fn end_mistake(options: &ReadOptions<'_>) -> &'static str {
 /// What is wrong with the words of `read`.
 fn read_mistake(arguments: &ArgMatches<'_>) -> &'static str {
     let Some(options) = read_options(arguments) else {
-        return NUMBER;
+        return INVALID;
     };
     if options.wants_file.is_none() && texts_at(arguments, "WANT").is_none() {
         "a WANT or --wants is needed"
@@ -40,26 +93,9 @@ fn read_mistake(arguments: &ArgMatches<'_>) -> &'static str {
     }
 }
 
-/// Whether the text of an option is not a period.
-fn is_no_period(arguments: &ArgMatches<'_>, name: &str) -> bool {
-    period_in(arguments, name).is_none()
-}
-
-/// Whether the text of an option is not a number.
-fn is_no_number(arguments: &ArgMatches<'_>, name: &str) -> bool {
-    number_in(arguments, name).is_none()
-}
-
 /// What is wrong with the words of `serve`.
 fn serve_mistake(arguments: &ArgMatches<'_>) -> &'static str {
-    if is_no_period(arguments, "reread") || is_no_period(arguments, "report") {
-        PERIOD
-    } else if is_no_number(arguments, "turns")
-        || is_no_number(arguments, "per-address")
-        || is_no_number(arguments, "silent")
-    {
-        NUMBER
-    } else if text_at(arguments, "status-from").is_some() {
+    if text_at(arguments, "status-from").is_some() {
         "--status-from needs --status"
     } else if text_at(arguments, "status-name").is_some() {
         "--status-name needs --status"
@@ -68,16 +104,10 @@ fn serve_mistake(arguments: &ArgMatches<'_>) -> &'static str {
     }
 }
 
-/// What is wrong with the words of `feed`.
-fn feed_mistake(arguments: &ArgMatches<'_>) -> &'static str {
-    if is_no_number(arguments, "from") {
-        NUMBER
-    } else {
-        "--strict can't be used with --skip"
-    }
-}
+/// What is said if no more is known.
+const INVALID: &str = "the command line is invalid";
 
-/// What is wrong with the words of a command.
+/// What is wrong with the words of a command whose numbers are right.
 fn mistake_in(name: &str, arguments: &ArgMatches<'_>) -> &'static str {
     if names_nothing(arguments) {
         return "the name of a file or folder is empty";
@@ -85,9 +115,9 @@ fn mistake_in(name: &str, arguments: &ArgMatches<'_>) -> &'static str {
     match name {
         "read" => read_mistake(arguments),
         "serve" => serve_mistake(arguments),
-        "feed" => feed_mistake(arguments),
+        "feed" => "--strict can't be used with --skip",
         "view" => "WHO can't be used with --station",
-        _ => "the command line is invalid",
+        _ => INVALID,
     }
 }
 
@@ -98,7 +128,11 @@ fn mistake_error(
     arguments: &ArgMatches<'_>,
 ) -> Result<clap::Error, AllocError> {
     let mut command = command_named(alloc, name)?;
-    command.error(ErrorKind::ArgumentConflict, mistake_in(name, arguments))
+    let text = match wrong_count(arguments) {
+        Some(option) => format!(in alloc; "{option}")?,
+        None => String::from_str(alloc, mistake_in(name, arguments))?,
+    };
+    command.error(ErrorKind::ArgumentConflict, text.as_str())
 }
 
 /// The text that says so.
@@ -109,10 +143,28 @@ pub fn mistake_text(alloc: Global, matches: &ArgMatches<'_>) -> Result<String, A
     }
 }
 
+/// How the line of a tip begins that helps nobody here: no text of the program begins with a dash.
+const NO_TIP: &str = "  tip: to pass ";
+
+/// A text without that tip, and without the empty line after it.
+fn without_tip(alloc: Global, text: &str) -> Result<String, AllocError> {
+    let mut kept = String::new(alloc);
+    let mut is_after_tip = false;
+    for line in text.lines() {
+        let is_tip = line.starts_with(NO_TIP);
+        if !is_tip && !(is_after_tip && line.is_empty()) {
+            kept.push_str(line)?;
+            kept.push_str("\n")?;
+        }
+        is_after_tip = is_tip;
+    }
+    Ok(kept)
+}
+
 /// The text of an error of `clap`.
 pub fn text_of(alloc: Global, error: clap::Error) -> Result<String, AllocError> {
     match error.to_string(alloc) {
-        Ok(text) => Ok(text),
+        Ok(text) => without_tip(alloc, text.as_str()),
         Err(_) => Err(AllocError),
     }
 }

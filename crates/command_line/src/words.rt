@@ -1,5 +1,6 @@
 //! The words of the command line.
-ghost use Rattle.std.specs.Prelude.{◌≡◌, ◌||◌, [], Some, codes, false, IfOk, IfErr, map, option_map, string_bytes};
+ghost use Rattle.std.specs.Prelude.{◌≡◌, ◌≤◌, ◌*◌, ◌||◌, [], Some, codes, false, IfOk, IfErr, map, option_map};
+ghost use Rattle.std.specs.Prelude.{string_bytes};
 ghost use Rattle.clap.specs.Words.{all_of, fault_of, first_of, found_of, kind_of, rows_of, subcommand_rows_of};
 ghost use Rattle.command_line.specs.Commands.{program_app};
 ghost use Rattle.command_line.specs.Jobs.{check_options_asked, check_options_in, flag_in};
@@ -8,7 +9,8 @@ ghost use Rattle.command_line.specs.Jobs.{period_in, period_of, feed_options_ask
 ghost use Rattle.command_line.specs.Jobs.{is_askable, is_spelled, job_of, number_in};
 ghost use Rattle.command_line.specs.Jobs.{is_empty_in, names_nothing, number_of};
 ghost use Rattle.command_line.specs.Jobs.{options_asked, options_in, read_asked, replay_asked};
-ghost use Rattle.command_line.specs.Jobs.{is_without_page, seconds_if, serve_asked, serve_options_asked};
+ghost use Rattle.command_line.specs.Jobs.{within_most, is_without_page, serve_asked, serve_options_asked};
+ghost use Rattle.command_line.specs.Jobs.{seconds_in, seconds_in_unit, seconds_of, time_of};
 ghost use Rattle.command_line.specs.Jobs.{status_asked, verbose_by, verbose_in, verbose_of, view_asked, wants_by};
 ghost use Rattle.command_line.specs.declared.job.WordsFault.TheVariants.{OutOfMemory};
 
@@ -23,7 +25,6 @@ use clap::error::ErrorKind;
 use std::alloc::{AllocError, Global};
 use text_parts::decimal;
 use text_parts::period::Period;
-use text_parts::separators::cut_at;
 
 /// The text of an argument, where it has one.
 pub fn text_at<'a>(arguments: &ArgMatches<'a>, name: &str) -> Option<&'a str>
@@ -126,27 +127,72 @@ pub fn number_in<'a>(arguments: &ArgMatches<'a>, name: &str) -> Option<Option<us
     }
 }
 
-/// So many seconds, if nothing is behind the `s`.
-fn seconds_if(behind: &[u8], digits: &[u8]) -> Option<Period>
-    ensures { result ≡ seconds_if behind.now digits.now }
+/// How many seconds a unit has: `s`, `m` or `h`.
+fn seconds_in_unit(unit: u8) -> Option<usize>
+    ensures { result ≡ seconds_in_unit unit }
 {
-    if !behind.is_empty() {
+    match unit {
+        b's' => Some(1),
+        b'm' => Some(60),
+        b'h' => Some(3_600),
+        _ => None,
+    }
+}
+
+/// How many seconds so many units are, if they are not more than 1,000,000,000.
+fn scaled(number: usize, unit: usize) -> Option<usize>
+    requires number { number ≤ 1000000000 }
+    requires unit { unit ≤ 3600 }
+    ensures { result ≡ within_most (number * unit) }
+{
+    let seconds = number * unit;
+    if seconds > 1_000_000_000 {
         return None;
     }
-    match number_of(digits) {
-        Some(number) => Some(Period::Seconds(number)),
+    Some(seconds)
+}
+
+/// The seconds that a text with a unit at its end spells: `90s`, `10m` or `2h`.
+fn time_of(text: &[u8]) -> Option<usize>
+    ensures { result ≡ time_of text.now }
+{
+    let (unit, digits) = text.split_last()?;
+    let unit = seconds_in_unit(*unit)?;
+    let number = number_of(digits)?;
+    scaled(number, unit)
+}
+
+/// The seconds that a text spells, with a unit or without: `90`, `90s`, `10m` or `2h`.
+fn seconds_of(text: &[u8]) -> Option<usize>
+    ensures { result ≡ seconds_of text.now }
+{
+    match number_of(text) {
+        Some(number) => Some(number),
+        None => time_of(text),
+    }
+}
+
+/// The seconds that an option has: the inner None where it is left out, and None where the text spells none.
+pub fn seconds_in<'a>(arguments: &ArgMatches<'a>, name: &str) -> Option<Option<usize>>
+    ensures { result ≡ seconds_in name.now (rows_of (found_of arguments.now)) }
+{
+    let Some(text) = text_at(arguments, name) else {
+        return Some(None);
+    };
+    match seconds_of(text.as_bytes()) {
+        Some(seconds) => Some(Some(seconds)),
         None => None,
     }
 }
 
-/// How often a text says: `N` is every so many turns, and `Ns` every so many seconds.
+/// How often a text says: `N` is every so many turns, and with a unit, as `60s`, every so many seconds.
 fn period_of(text: &[u8]) -> Option<Period>
     ensures { result ≡ period_of text.now }
 {
-    match cut_at(text, b's') {
-        Some((digits, behind)) => seconds_if(behind, digits),
-        None => match number_of(text) {
-            Some(number) => Some(Period::Turns(number)),
+    match number_of(text) {
+        Some(number) => Some(Period::Turns(number)),
+        None => match time_of(text) {
+            Some(seconds) => Some(Period::Seconds(seconds)),
             None => None,
         },
     }
@@ -185,7 +231,7 @@ fn serve_job<'a>(arguments: &ArgMatches<'a>) -> Option<Job<'a>>
     let reread = period_in(arguments, "reread")?;
     let report = period_in(arguments, "report")?;
     let per_address = number_in(arguments, "per-address")?;
-    let silent = number_in(arguments, "silent")?;
+    let silent = seconds_in(arguments, "silent")?;
     let is_strict = has_flag(arguments, "strict");
     let options = ServeOptions {
         config,
@@ -210,12 +256,13 @@ fn serve_job<'a>(arguments: &ArgMatches<'a>) -> Option<Job<'a>>
     Some(Job::Serve(options))
 }
 
-/// The options of `feed`; None if the text of a number is not one, or if `--strict` and `--skip` stand together.
+/// The options of `feed`; None if the text of a number or of seconds is not one, or if `--strict` and `--skip` stand
+/// together.
 fn feed_options<'a>(arguments: &ArgMatches<'a>) -> Option<FeedOptions<'a>>
     ensures { option_map feed_options_asked result ≡ feed_options_in (rows_of (found_of arguments.now)) }
 {
     let from = number_in(arguments, "from")?;
-    let limit = number_in(arguments, "timeout")?;
+    let limit = seconds_in(arguments, "timeout")?;
     let stops = has_flag(arguments, "strict");
     let skips = has_flag(arguments, "skip");
     if stops && skips {
@@ -254,8 +301,8 @@ fn feed_job<'a>(alloc: Global, arguments: &ArgMatches<'a>) -> Result<Option<Job<
 pub fn read_options<'a>(arguments: &ArgMatches<'a>) -> Option<ReadOptions<'a>>
     ensures { option_map options_asked result ≡ options_in (rows_of (found_of arguments.now)) }
 {
-    let retry = number_in(arguments, "retry")?;
-    let timeout = number_in(arguments, "timeout")?;
+    let retry = seconds_in(arguments, "retry")?;
+    let timeout = seconds_in(arguments, "timeout")?;
     Some(ReadOptions {
         fetch: text_at(arguments, "fetch") == Some("true"),
         begin: text_at(arguments, "begin"),

@@ -19,10 +19,10 @@ pub fn cause_of(fault: ConfigFault) -> Option<&'static str> {
 fn list_cause(fault: AccessFault) -> Option<&'static str> {
     match fault {
         AccessFault::Address => Some(
-            "an access list is refused: a token has no address before its first slash",
+            "an entry is no address, network or group; everybody is 0.0.0.0/0, and no name of a host is taken",
         ),
         AccessFault::Mask => Some(
-            "an access list is refused: a token has no mask behind its first slash",
+            "an entry has no mask of 0 to 32, or of four numbers, after its slash",
         ),
         AccessFault::OutOfMemory => None,
     }

@@ -5,7 +5,7 @@ use std::io::{self, ErrorKind};
 
 /// What is said of a file that is no plain file: a folder, a pipe, a device, or a link where none is followed.
 pub fn not_plain() -> io::Error {
-    io::Error::from(ErrorKind::InvalidInput)
+    io::Error::new(ErrorKind::InvalidInput, "it has to be a plain file")
 }
 
 /// What the system says of the file to which a path leads: none if it is not there. One that is no plain file is

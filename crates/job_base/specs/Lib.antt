@@ -1,3 +1,4 @@
+pub mod Colours
 pub mod Configured
 pub mod Endpoints
 pub mod Meters

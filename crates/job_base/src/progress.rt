@@ -3,7 +3,9 @@
 //! How far a job is goes to standard error alone and only at a terminal, so that logs and mails of cron stay as they
 //! are. `check` is silent while its lines go to the same terminal, since these show it.
 ghost use Rattle.std.specs.Prelude.{◌≡◌};
+ghost use Rattle.job_base.specs.Meters.{rate, share};
 
+use crate::several::Several;
 use files::milliseconds;
 use protocol::limits::RECORD;
 use std::fs::File;
@@ -73,55 +75,106 @@ impl Meter {
     }
 }
 
+/// How many hundredths of so many bytes are read.
+fn share(bytes: u64, size: u64) -> u64
+    ensures { result ≡ share bytes size }
+{
+    if size <= bytes {
+        return 100;
+    }
+    (bytes as u128 * 100 / size as u128) as u64
+}
+
+/// How many records a second so many are in so many milliseconds.
+fn rate(records: u64, milliseconds: u64) -> u64
+    ensures { result ≡ rate records milliseconds }
+{
+    records.saturating_mul(1_000) / milliseconds.max(1)
+}
+
+/// How far a job is that reads records, shown on the standard error at most ten times a second.
+#[derive(Drop)]
+pub struct Progress<'r> {
+    rt: &'r HostRuntime,
+    /// How many bytes there are to read, if that is known.
+    size: Option<u64>,
+    meter: Meter,
+    /// When it began, in milliseconds.
+    begun: u64,
+    is_shown: bool,
+}
+
+impl<'r> Progress<'r> {
+    /// Before the first byte of so many. It is shown only if `is_shown`.
+    pub fn new(rt: &'r HostRuntime, size: Option<u64>, is_shown: bool) -> Progress<'r> {
+        let begun = if is_shown { milliseconds(rt) } else { 0 };
+        Progress {
+            rt,
+            size,
+            meter: Meter {
+                bytes: 0,
+                shown: None,
+            },
+            begun,
+            is_shown,
+        }
+    }
+
+    /// Shows how far it is at a moment.
+    fn show(&self, now: u64) {
+        let bytes = self.meter.bytes;
+        let records = bytes / RECORD as u64;
+        let rate = rate(records, now.saturating_sub(self.begun));
+        let records = Several::records(records);
+        let _ = match self.size {
+            Some(size) => eprint!(self.rt;
+                "\r{records}, {bytes} of {size} bytes, {} %, {rate} records/s\x1b[K",
+                share(bytes, size)
+            ),
+            None => eprint!(self.rt; "\r{records}, {bytes} bytes, {rate} records/s\x1b[K"),
+        };
+    }
+
+    /// So many bytes more are read.
+    pub fn add_bytes(&mut self, count: usize) {
+        if !self.is_shown {
+            return;
+        }
+        self.meter.add_bytes(count);
+        let now = milliseconds(self.rt);
+        if self.meter.comes(now) {
+            self.show(now);
+        }
+    }
+
+    /// Takes away what is shown, until it is shown again.
+    pub fn clear(&self) {
+        if self.is_shown && self.meter.shown.is_some() {
+            let _ = eprint!(self.rt; "\r\x1b[K");
+        }
+    }
+}
+
 /// Passes on what is read of a file of records, and shows on the standard error how far that is, at most ten times a
 /// second.
 #[derive(Drop)]
 pub struct Watched<'r, T> {
-    rt: &'r HostRuntime,
     inner: T,
-    size: Option<u64>,
-    meter: Meter,
-    is_shown: bool,
+    progress: Progress<'r>,
 }
 
 impl<'r, T> Watched<'r, T> {
     /// What is read of `inner`, of which so many bytes can be read. It is shown only if `is_shown`.
     pub fn new(rt: &'r HostRuntime, inner: T, size: Option<u64>, is_shown: bool) -> Watched<'r, T> {
         Watched {
-            rt,
             inner,
-            size,
-            meter: Meter {
-                bytes: 0,
-                shown: None,
-            },
-            is_shown,
-        }
-    }
-
-    /// Shows how far it is.
-    fn show(&self) {
-        let bytes = self.meter.bytes;
-        let records = bytes / RECORD as u64;
-        let _ = match self.size {
-            Some(size) => eprint!(self.rt; "\r{records} records, {bytes} of {size} bytes\x1b[K"),
-            None => eprint!(self.rt; "\r{records} records, {bytes} bytes\x1b[K"),
-        };
-    }
-
-    /// So many bytes more are read.
-    fn add_bytes(&mut self, count: usize) {
-        self.meter.add_bytes(count);
-        if self.meter.comes(milliseconds(self.rt)) {
-            self.show();
+            progress: Progress::new(rt, size, is_shown),
         }
     }
 
     /// Takes away what is shown, and answers what was read of.
     pub fn end(self) -> T {
-        if self.is_shown && self.meter.shown.is_some() {
-            let _ = eprint!(self.rt; "\r\x1b[K");
-        }
+        self.progress.clear();
         self.inner
     }
 }
@@ -129,9 +182,7 @@ impl<'r, T> Watched<'r, T> {
 impl<T: Read> Read for Watched<'_, T> {
     fn read(&mut self, block: &mut [u8]) -> io::Result<usize> {
         let count = self.inner.read(block)?;
-        if self.is_shown {
-            self.add_bytes(count);
-        }
+        self.progress.add_bytes(count);
         Ok(count)
     }
 }

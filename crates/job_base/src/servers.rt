@@ -21,7 +21,7 @@ fn no_address() -> Failure
     ensures { result.reason ≡ Address }
 {
     Failure::by(Reason::Address, Some("a word is no address with a port")).allowing(
-        "an address and a port, as 127.0.0.1:18000",
+        "four numbers and a port, as 127.0.0.1:18000; names of hosts and IPv6 are not taken",
     )
 }
 

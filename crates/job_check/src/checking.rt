@@ -3,7 +3,7 @@
 ghost use Rattle.std.specs.Prelude.{◌≡◌};
 ghost use Rattle.job_check.specs.Listings.{listing_by};
 
-use crate::names::{FileLine, FileName, files_of};
+use crate::names::{EmptyFile, FileLine, FileName, files_of};
 use command_line::CheckOptions;
 use incidents::{Failure, Incident};
 use job_base::{
@@ -35,15 +35,18 @@ fn listing_options(options: CheckOptions<'_>) -> ListingOptions
 ///
 /// It fails if in one of them a record is refused, or if one ends inside a record: with what is wrong with the first of
 /// these files, after all were listed. Of several files each one with which something is wrong has a line on the
-/// standard error. With a configuration, records of stations that it has not are refused too.
+/// standard error, with `is_verbose` or at a terminal. With a configuration, records of stations that it has not are
+/// refused too.
 pub fn check_files<'a>(
     rt: &HostRuntime,
     words: &[&'a str],
     options: CheckOptions<'a>,
+    is_verbose: bool,
 ) -> Result<(), Incident<'a>> {
+    let is_shown = is_verbose || is_terminal();
     match options.config {
-        Some(config) => check_by(rt, words, options, config),
-        None => check_named(rt, words, options, &AllStations),
+        Some(config) => check_by(rt, words, options, config, is_shown),
+        None => check_named(rt, words, options, &AllStations, is_shown),
     }
 }
 
@@ -53,9 +56,11 @@ fn check_by<'a>(
     words: &[&'a str],
     options: CheckOptions<'a>,
     config: &'a str,
+    is_shown: bool,
 ) -> Result<(), Incident<'a>> {
     let read = config_at(rt, config)?;
-    check_named(rt, words, options, &ConfiguredStations::new(read.config()))
+    let stations = ConfiguredStations::new(read.config());
+    check_named(rt, words, options, &stations, is_shown)
 }
 
 /// The same, of files that may have records of these stations.
@@ -64,12 +69,13 @@ fn check_named<'a, S: Stations>(
     words: &[&'a str],
     options: CheckOptions<'a>,
     stations: &S,
+    is_shown: bool,
 ) -> Result<(), Incident<'a>> {
     let names = files_of(rt, words)?;
     let Ok(mut check) = RecordCheck::new(rt.alloc()) else {
         return Err(Incident::out_of_memory());
     };
-    let first = check_each(rt, names, options, stations, &mut check)?;
+    let first = check_each(rt, names, options, stations, &mut check, is_shown)?;
     match list_streams(rt, listing_options(options), &mut check) {
         Ok(()) => first_of(first),
         Err(fault) => Err(Incident::from(Failure::of(fault.reason()))),
@@ -91,24 +97,26 @@ fn check_each<'a, S: Stations>(
     options: CheckOptions<'a>,
     stations: &S,
     check: &mut RecordCheck,
+    is_shown: bool,
 ) -> Result<Option<Incident<'a>>, Incident<'a>> {
-    let is_alone = names.len() == 1;
+    let is_told = is_shown && names.len() > 1;
     let mut first = None;
     'files: for name in names {
-        let refused = check_file(rt, name, options, stations, check, is_alone)?;
+        let refused = check_file(rt, name, options, stations, check, is_told)?;
         first = first.or(refused);
     }
     Ok(first)
 }
 
-/// Lists the records of a file. Answers what is wrong with it, and unless it is alone tells that as well.
+/// Lists the records of a file. Answers what is wrong with it, and if `is_told` tells that as well. That nothing stands
+/// in it is always told.
 fn check_file<'a, S: Stations>(
     rt: &HostRuntime,
     name: FileName<'a>,
     options: CheckOptions<'a>,
     stations: &S,
     check: &mut RecordCheck,
-    is_alone: bool,
+    is_told: bool,
 ) -> Result<Option<Incident<'a>>, Incident<'a>> {
     let file = match name.open(rt) {
         Ok(file) => file,
@@ -120,9 +128,14 @@ fn check_file<'a, S: Stations>(
         first,
     } = check_open(rt, options, stations, check, file);
     match finding {
-        Ok(None) => Ok(None),
+        Ok(None) => {
+            if first.is_empty() {
+                tell_empty(rt, &name);
+            }
+            Ok(None)
+        }
         Ok(Some(finding)) => {
-            if !is_alone {
+            if is_told {
                 tell_file(rt, &name, finding);
             }
             let kind = kind_at(finding, &first);
@@ -130,6 +143,11 @@ fn check_file<'a, S: Stations>(
         }
         Err(fault) => Err(name.broken(fault, reason)),
     }
+}
+
+/// Tells that nothing stands in a file.
+fn tell_empty(rt: &HostRuntime, name: &FileName<'_>) {
+    let _ = eprintln!(rt; "{}", EmptyFile { name });
 }
 
 /// Tells that something is wrong with one of several files.

@@ -90,7 +90,7 @@ fn nobody() -> Failure
         Some("a word is no address and no network, and there is no such file"),
     )
     .allowing(
-        "an address as 10.0.0.7, a network as 10.0.0.0/8, or the file of another configuration",
+        "an address as 10.0.0.7, a network as 10.0.0.0/8 (0 to 32), or the file of another configuration",
     )
 }
 

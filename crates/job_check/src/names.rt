@@ -113,6 +113,19 @@ impl Display for FileLine<'_, '_> {
     }
 }
 
+/// That nothing stands in a file, as standard error is told.
+#[derive(Clone, Copy)]
+pub struct EmptyFile<'n, 'a> {
+    pub name: &'n FileName<'a>,
+}
+
+impl Display for EmptyFile<'_, '_> {
+    fn fmt<W: Write>(&self, f: &mut Formatter<W>) -> fmt::Result {
+        let mut line = ShownLine::new(f);
+        write!(line, "seedlinkd: nothing to check in {}", self.name.shown())
+    }
+}
+
 /// That a folder has no file that is checked, as standard error is told.
 #[derive(Clone, Copy)]
 struct EmptyFolder<'a> {
@@ -124,11 +137,11 @@ struct EmptyFolder<'a> {
 impl Display for EmptyFolder<'_> {
     fn fmt<W: Write>(&self, f: &mut Formatter<W>) -> fmt::Result {
         let mut line = ShownLine::new(f);
-        write!(line, "seedlinkd: nothing to check in {}", self.path)?;
-        match self.passed {
-            0 => Ok(()),
-            passed => write!(line, ", where {passed} were passed over"),
+        line.write_str("seedlinkd: nothing to check")?;
+        if self.passed > 0 {
+            write!(line, " ({} passed over)", self.passed)?;
         }
+        write!(line, " in {}", self.path)
     }
 }
 

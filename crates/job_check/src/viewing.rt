@@ -208,6 +208,7 @@ fn no_station() -> Failure {
         Reason::UnknownStation,
         Some("the configuration has no such station"),
     )
+    .allowing("a network and a code of the configuration, in capitals, as GE_APE")
 }
 
 /// Writes who may use the station that a word names. It fails if there is none.

@@ -5,6 +5,7 @@ ghost use Rattle.job_feed.specs.Aligning.{begins, is_followed, is_record};
 
 use mseed_header::read;
 use protocol::limits::RECORD;
+use record_check::{FileKind, kind_of};
 use std::alloc::Global;
 use std::io::{self, ErrorKind, Read};
 
@@ -71,6 +72,8 @@ pub struct Stretch {
     pub offset: u64,
     /// How many they are.
     pub bytes: u64,
+    /// What the file is, if it is known for no file of records.
+    pub kind: Option<FileKind>,
 }
 
 /// What is read of a file of records: all of it, or the records that can be read alone. What can't be read is then
@@ -102,7 +105,11 @@ impl<T> Aligned<T> {
             due: 0,
             is_lost: false,
             offset,
-            stretch: Stretch { offset, bytes: 0 },
+            stretch: Stretch {
+                offset,
+                bytes: 0,
+                kind: None,
+            },
             ended: None,
         }
     }
@@ -189,6 +196,9 @@ impl<T: Read> Aligned<T> {
     fn fill(&mut self) -> io::Result<usize> {
         let mut piece = [0; PIECE];
         let count = self.inner.read(&mut piece)?;
+        if self.offset == 0 && self.held.is_empty() {
+            self.stretch.kind = kind_of(&piece[..count]);
+        }
         match self.held.extend_from_slice(&piece[..count]) {
             Ok(()) => Ok(count),
             Err(_) => Err(io::Error::from(ErrorKind::OutOfMemory)),

@@ -36,7 +36,7 @@ impl FeedFault {
         match self {
             FeedFault::Send(_) => None,
             FeedFault::Untaken => Some(
-                "the server ended the connection before it had read everything; perhaps it takes no feed from here now",
+                "the server ended the connection: it takes no feed from here, or has 16; perhaps it read nothing",
             ),
             FeedFault::Silent => Some(
                 "the server took nothing, or did not end the connection, for the time of --timeout",

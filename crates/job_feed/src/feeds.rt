@@ -302,13 +302,23 @@ fn send_and_wait<'a, S: Stations>(
     }
 }
 
+/// What is said of a feed that sent nothing: the first file ends before the record at which it was to begin, or no file
+/// has a record.
+fn none_sent<'a>(first: Option<FileRecord<'a>>) -> FeedLine<'a> {
+    match first {
+        Some(FileRecord { file, number }) if number > 1 => FeedLine::Short { from: number, file },
+        _ => FeedLine::Sent { count: 0 },
+    }
+}
+
 /// Says how many records were sent, how many of them are refused, and which is the first. If all may be taken, it is
-/// said on request alone.
+/// said only if somebody is shown it; that none was sent is always said.
 fn tell_sent(
     rt: &HostRuntime,
     progress: &FeedProgress<'_>,
     config: Option<&str>,
-    is_verbose: bool,
+    first: Option<FileRecord<'_>>,
+    is_shown: bool,
 ) {
     let count = progress.sent.count;
     match (progress.tally.first(), progress.refused_in) {
@@ -323,7 +333,10 @@ fn tell_sent(
             };
             let _ = eprintln!(rt; "{line}");
         }
-        _ if is_verbose => {
+        _ if count == 0 => {
+            let _ = eprintln!(rt; "{}", none_sent(first));
+        }
+        _ if is_shown => {
             let _ = eprintln!(rt; "{}", FeedLine::Sent { count });
         }
         _ => {}
@@ -337,6 +350,17 @@ fn first_record(from: Option<usize>) -> u64
     match from {
         Some(record) => record as u64,
         None => 1,
+    }
+}
+
+/// The record at which a feed begins, of the first file.
+fn beginning_of<'a>(files: &[&'a str], from: u64) -> Option<FileRecord<'a>> {
+    match files.first() {
+        Some(file) => Some(FileRecord {
+            file: *file,
+            number: from,
+        }),
+        None => None,
     }
 }
 
@@ -365,32 +389,25 @@ fn feed_by<'a, S: Stations>(
         is_shown: is_verbose || is_terminal(),
     };
     let mut progress = FeedProgress::new();
-    match send_and_wait(
-        rt,
-        server,
-        files,
-        first_record(options.from),
-        &rules,
-        &mut progress,
-    ) {
-        Ok(()) => {
-            tell_sent(rt, &progress, options.config, is_verbose);
-            Ok(())
-        }
-        Err(incident) => {
-            let _ = eprintln!(rt; "{}", progress.sent);
-            Err(incident)
-        }
+    let from = first_record(options.from);
+    let sent = send_and_wait(rt, server, files, from, &rules, &mut progress);
+    if sent.is_ok() {
+        let first = beginning_of(files, from);
+        tell_sent(rt, &progress, options.config, first, rules.is_shown);
+    } else if rules.is_shown {
+        let _ = eprintln!(rt; "{}", progress.sent);
     }
+    sent
 }
 
 /// Sends the records of files to a server, those of the first file from a record on, and waits until it has read them.
 ///
-/// If records are refused by every server, or with `--config` by one with that configuration, or with `is_verbose`, the
-/// last line of the standard error says how many records were sent, how many are refused, and which is the first. At a
-/// fault a line says how many records the connection has taken whole, and which was the last. If sixteen records in a
-/// row can't be read, a line says so at once; with `--strict` they are the last that is sent, and the fault is that of
-/// the first. With `--skip` bytes that are in no record are passed over, and a line tells of them.
+/// If records are refused by every server, or with `--config` by one with that configuration, if none was sent, or with
+/// `is_verbose` or at a terminal, the last line of the standard error says how many records were sent, how many are
+/// refused, and which is the first. At a fault, with `is_verbose` or at a terminal, a line says how many records the
+/// connection has taken whole, and which was the last. If sixteen records in a row can't be read, a line says so at
+/// once; with `--strict` they are the last that is sent, and the fault is that of the first. With `--skip` bytes that
+/// are in no record are passed over, and a line tells of them.
 pub fn feed_files<'a>(
     rt: &HostRuntime,
     server: &'a str,

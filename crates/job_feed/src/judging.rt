@@ -4,6 +4,7 @@ ghost use Rattle.job_feed.specs.Judging.{row_part};
 
 use crate::aligned::{Aligned, Stretch};
 use crate::lines::FeedLine;
+use job_base::line_start;
 use record_check::{FeedTally, FileKind, Finding, RefusedRecord, Stations, kind_of};
 use std::io::{self, ErrorKind, Read};
 
@@ -109,7 +110,8 @@ impl<'r, 's, 't, 'f, T, S: Stations> Judged<'r, 's, 't, 'f, T, S> {
         let file = self.file;
         if self.lines > 0 {
             self.lines -= 1;
-            let _ = eprintln!(self.rt; "{}", FeedLine::PassedOver { file, stretch });
+            let line = FeedLine::PassedOver { file, stretch };
+            let _ = eprintln!(self.rt; "{}{line}", line_start());
         }
     }
 
@@ -119,7 +121,8 @@ impl<'r, 's, 't, 'f, T, S: Stations> Judged<'r, 's, 't, 'f, T, S> {
         if !self.is_told {
             self.is_told = true;
             let kind = self.kind;
-            let _ = eprintln!(self.rt; "{}", FeedLine::Lost { file, lost, kind });
+            let line = FeedLine::Lost { file, lost, kind };
+            let _ = eprintln!(self.rt; "{}{line}", line_start());
         }
     }
 

@@ -1,5 +1,6 @@
 //! What a user is told of the records of a feed.
 use crate::aligned::Stretch;
+use job_base::Several;
 use record_check::{FileKind, RefusedRecord};
 use shown_lines::ShownLine;
 use std::fmt::{self, Display, Formatter, Write};
@@ -23,6 +24,11 @@ pub enum FeedLine<'a> {
     Sent {
         count: u64,
     },
+    /// Nothing was sent, since the first file ends before the record at which the feed was to begin.
+    Short {
+        from: u64,
+        file: &'a str,
+    },
     /// All was sent, and so many records are refused by every server, or by one with a configuration, of which that is
     /// the first, of a file.
     Refused {
@@ -35,15 +41,33 @@ pub enum FeedLine<'a> {
     },
 }
 
-/// Whoever refuses records: every server, or one with a configuration.
+/// Whoever refuses so many records: every server, or one with a configuration, which is named at the end of a line.
 #[derive(Clone, Copy, Drop)]
-struct Refuser<'a>(Option<&'a str>);
+struct Refusal {
+    refused: u64,
+    is_by_config: bool,
+}
 
-impl Display for Refuser<'_> {
+impl Display for Refusal {
+    fn fmt<W: Write>(&self, f: &mut Formatter<W>) -> fmt::Result {
+        let refused = self.refused;
+        if self.is_by_config {
+            write!(f, "{refused} would be refused")
+        } else {
+            write!(f, "no server takes {refused}")
+        }
+    }
+}
+
+/// The configuration by which records are refused, at the end of a line.
+#[derive(Clone, Copy, Drop)]
+struct ByConfig<'a>(Option<&'a str>);
+
+impl Display for ByConfig<'_> {
     fn fmt<W: Write>(&self, f: &mut Formatter<W>) -> fmt::Result {
         match self.0 {
-            Some(config) => write!(f, "a server with {config} refuses"),
-            None => f.write_str("no server takes"),
+            Some(config) => write!(f, ", by {config}"),
+            None => Ok(()),
         }
     }
 }
@@ -56,7 +80,7 @@ impl Display for Known {
     fn fmt<W: Write>(&self, f: &mut Formatter<W>) -> fmt::Result {
         match self.0 {
             Some(FileKind::Records(_)) | None => Ok(()),
-            Some(kind) => write!(f, ", {kind}"),
+            Some(kind) => write!(f, " ({kind})"),
         }
     }
 }
@@ -67,17 +91,22 @@ impl Display for FeedLine<'_> {
         match *self {
             FeedLine::Lost { file, lost, kind } => write!(
                 line,
-                "seedlinkd: 16 records in a row are not valid, from record {} of {file} on, at byte {}: {lost}{}",
+                "seedlinkd: 16 records in a row are not valid: {lost}{}; from record {}, byte {}, of {file} on",
+                Known(kind),
                 lost.number,
-                lost.offset(),
-                Known(kind)
+                lost.offset()
             ),
             FeedLine::PassedOver { file, stretch } => write!(
                 line,
-                "seedlinkd: passed over {} bytes of {file} that are in no record, from byte {} on",
-                stretch.bytes, stretch.offset
+                "seedlinkd: passed over {} in no record{}, from byte {} of {file} on",
+                Several::bytes(stretch.bytes),
+                Known(stretch.kind),
+                stretch.offset
             ),
-            FeedLine::Sent { count } => write!(line, "sent {count} records"),
+            FeedLine::Sent { count } => write!(line, "sent {}", Several::records(count)),
+            FeedLine::Short { from, file } => {
+                write!(line, "sent 0 records: there is no record {from} in {file}")
+            }
             FeedLine::Refused {
                 count,
                 refused,
@@ -87,11 +116,16 @@ impl Display for FeedLine<'_> {
                 kind,
             } => write!(
                 line,
-                "sent {count} records, of which {} {refused}; record {} of {file}, at byte {}: {first}{}",
-                Refuser(config),
+                "sent {}, of which {}: {first}{}; record {}, byte {}, of {file}{}",
+                Several::records(count),
+                Refusal {
+                    refused,
+                    is_by_config: config.is_some()
+                },
+                Known(kind),
                 first.number,
                 first.offset(),
-                Known(kind)
+                ByConfig(config)
             ),
         }
     }

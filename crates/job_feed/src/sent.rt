@@ -4,6 +4,7 @@
 //! how many of them the server has read is known only at the end, or from the server's log.
 ghost use Rattle.std.specs.Prelude.{◌≡◌, ◌+◌, ◌-◌, ◌^◌, min, nat_lt, None, Some, if◌then◌else◌};
 
+use job_base::Several;
 use shown_lines::ShownLine;
 use std::fmt::{self, Display, Formatter, Write};
 
@@ -67,14 +68,14 @@ impl<'a> SentRecords<'a> {
 impl Display for SentRecords<'_> {
     /// `seedlinkd: sent 205 records, up to record 5 of c.mseed`, in a line of at most 200 bytes.
     fn fmt<W: Write>(&self, f: &mut Formatter<W>) -> fmt::Result {
-        let count = self.count;
+        let sent = Several::records(self.count);
         let mut line = ShownLine::new(f);
         match self.last {
             Some(FileRecord { file, number }) => write!(
                 line,
-                "seedlinkd: sent {count} records, up to record {number} of {file}"
+                "seedlinkd: sent {sent}, up to record {number} of {file}"
             ),
-            None => write!(line, "seedlinkd: sent {count} records"),
+            None => write!(line, "seedlinkd: sent {sent}"),
         }
     }
 }

@@ -2,6 +2,7 @@
 ghost use Rattle.std.specs.Prelude.{◌≡◌};
 ghost use Rattle.job_feed.specs.Waiting.{first_wait, is_told, rest_of};
 
+use job_base::line_start;
 use std::io::{self, ErrorKind, Read, Write};
 use std::net::TcpStream;
 use std::time::Duration;
@@ -94,7 +95,10 @@ impl<'r> WaitingStream<'r> {
     /// Tells that nothing was taken, and has the call that is made once more end after the rest of the time.
     fn tell(&mut self) -> io::Result<()> {
         self.is_told = false;
-        let _ = eprintln!(self.rt; "seedlinkd: nothing was taken for 60 s; waiting");
+        let _ = eprintln!(self.rt;
+            "{}seedlinkd: nothing was taken for 60 s; waiting",
+            line_start()
+        );
         bound(&self.stream, rest_of(self.limit))
     }
 }

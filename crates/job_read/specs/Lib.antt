@@ -6,6 +6,7 @@ pub mod Notices
 pub mod Places
 pub mod Returns
 pub mod Rows
+pub mod Sent
 pub mod Together
 pub mod Unplaced
 pub mod Waiting

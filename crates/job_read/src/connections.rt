@@ -14,7 +14,7 @@ use crate::places::Places;
 use crate::reading::Reading;
 use crate::sides::{AnswerCounter, CommandWriter};
 use incidents::{Failure, Incident, Place};
-use job_base::{ServerAddress, connection, unconnected};
+use job_base::{ServerAddress, connection, lines_of, unconnected};
 use protocol::reason::Reason;
 use reader_run::{ListingFault, Servers};
 use sl_io::Outer;
@@ -53,6 +53,20 @@ impl<'r, 'a, 'w> ServersInTurn<'r, 'a, 'w> {
         match self.reading.servers.get(self.places.place()) {
             Some(server) => Ok(*server),
             None => Err(Incident::from(Failure::of(Reason::Connect))),
+        }
+    }
+
+    /// A failure, with what the server sent if that is the failure.
+    fn with_sent(&self, incident: Incident<'a>) -> Incident<'a>
+        ensures { result.failure ≡ incident.entry.failure }
+    {
+        if matches!(
+            incident.failure.reason,
+            Reason::BadReply | Reason::NotAPacket
+        ) {
+            incident.with(lines_of(self.rt.alloc(), self.inlet.sent()))
+        } else {
+            incident
         }
     }
 
@@ -173,7 +187,7 @@ impl<'r, 'a, 'w> Servers for ServersInTurn<'r, 'a, 'w> {
             reader.into_inner().is_answered(),
             patience.is_fault(),
         );
-        let incident = fault.failure().at_server(self.server()?.word);
+        let incident = self.with_sent(fault.failure().at_server(self.server()?.word));
         if patience.is_over() {
             // Nothing more comes of the window: the reading is at its end.
             return Err(incident);

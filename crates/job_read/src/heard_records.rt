@@ -8,6 +8,8 @@ use crate::notices::{ErrorTeller, Notice, Teller};
 use crate::reading::Reading;
 use continued_files::FileLength;
 use disk_files::FileFailure;
+use job_base::Progress;
+use protocol::limits::RECORD;
 use reader_run::{RecordSink, SinkFault};
 use sl_io::WriteFault;
 use slreader::GivenPacket;
@@ -20,6 +22,10 @@ pub struct HeardRecords<'r, 'a, 'w, P> {
     reading: &'r Reading<'a, 'w>,
     teller: ErrorTeller<'r>,
     listener: Option<Listener>,
+    /// How far the reading is.
+    progress: Progress<'r>,
+    /// Whether a packet came.
+    has_some: bool,
 }
 
 impl<'r, 'a, 'w, P> HeardRecords<'r, 'a, 'w, P> {
@@ -37,6 +43,16 @@ impl<'r, 'a, 'w, P> HeardRecords<'r, 'a, 'w, P> {
             reading,
             teller: ErrorTeller::new(rt),
             listener: None,
+            progress: Progress::new(rt, None, reading.is_measured),
+            has_some: false,
+        }
+    }
+
+    /// The reading is over. If nothing came, though it was to, and somebody is shown that, it is told.
+    pub fn finish(&self, is_awaited: bool) {
+        self.progress.clear();
+        if is_awaited && !self.has_some && self.reading.is_shown() {
+            let _ = eprintln!(self.rt; "seedlinkd: nothing came of what was asked for");
         }
     }
 
@@ -105,6 +121,8 @@ impl<P: RecordSink> RecordSink for HeardRecords<'_, '_, '_, P> {
 
     fn put(&mut self, packet: &GivenPacket<'_>) -> Result<(), SinkFault> {
         self.inner.put(packet)?;
+        self.has_some = true;
+        self.progress.add_bytes(RECORD);
         self.tell_packet(packet);
         Ok(())
     }

@@ -5,6 +5,7 @@ ghost use Rattle.std.specs.Prelude.{◌≡◌};
 ghost use Rattle.std.specs.Io.{ReadsAtMost};
 ghost use Rattle.job_read.specs.Waiting.{is_within};
 
+use crate::sent::SentPiece;
 use std::alloc::Global;
 use std::cell::{Cell, RefCell};
 use std::io::{self, BufRead, BufReader, ErrorKind, Read};
@@ -22,6 +23,8 @@ pub struct Inlet {
     /// After how many milliseconds the system ends a read that brings nothing, as it was told last; never if that is
     /// None.
     limit: Cell<Option<u64>>,
+    /// The beginning of what came last.
+    sent: Cell<SentPiece>,
 }
 
 /// Whether a read that ends after one time has ended by another one.
@@ -46,7 +49,13 @@ impl Inlet {
         Inlet {
             stream: RefCell::new(None),
             limit: Cell::new(None),
+            sent: Cell::new(SentPiece::none()),
         }
+    }
+
+    /// The beginning of what came last, also once the connection is over.
+    pub fn sent(&self) -> SentPiece {
+        self.sent.get()
     }
 
     /// The connection is over.
@@ -63,6 +72,7 @@ impl Inlet {
             *held = Some(reader);
         }
         self.limit.set(None);
+        self.sent.set(SentPiece::none());
         Ok(())
     }
 
@@ -98,7 +108,18 @@ impl Inlet {
                 self.set_limit(stream.get_ref(), None);
                 Err(reason)
             }
-            read => read,
+            Ok(count) => {
+                self.note(block, count);
+                Ok(count)
+            }
+            Err(reason) => Err(reason),
+        }
+    }
+
+    /// Keeps the beginning of so many bytes that came.
+    fn note(&self, block: &[u8], count: usize) {
+        if count > 0 && count <= block.len() {
+            self.sent.set(SentPiece::of(&block[..count]));
         }
     }
 

@@ -24,6 +24,7 @@ mod places;
 mod reading;
 mod returns;
 mod rows;
+mod sent;
 mod sides;
 mod states;
 mod together;

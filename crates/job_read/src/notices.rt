@@ -3,6 +3,7 @@ ghost use Rattle.std.specs.Prelude.{◌≡◌, ◌∷◌, [], List, None};
 ghost use Rattle.std.specs.declared.option.Option.{Option};
 ghost use Rattle.job_read.specs.Notices.{NoticeValue, Tells, notice_value};
 
+use job_base::line_start;
 use shown_lines::ShownLine;
 use sl_packet::Seq;
 use std::fmt::{self, Display, Formatter, Write};
@@ -165,6 +166,6 @@ impl Teller for ErrorTeller<'_> {
     ghost told = { λ _. None };
 
     fn tell(&mut self, notice: &Notice<'_>) {
-        let _ = eprintln!(self.rt; "{notice}");
+        let _ = eprintln!(self.rt; "{}{notice}", line_start());
     }
 }

@@ -23,8 +23,8 @@ use command_line::ReadOptions;
 use continued_files::FileLength;
 use incidents::{Failure, Incident, Place, Site};
 use job_base::{
-    ErrorOutput, ReasonKeeper, ServerAddress, is_terminal, server_of, tell_incident, times_of,
-    unopened,
+    ErrorOutput, ReasonKeeper, ServerAddress, is_output_terminal, is_terminal, server_of,
+    tell_incident, times_of, unopened,
 };
 use protocol::reason::Reason;
 use reader_run::{Break, Gathered, ListingFault, Nowhere, PacketLines, RecordSink};
@@ -67,6 +67,8 @@ pub struct Reading<'a, 'w> {
     pub lines: PacketLines,
     /// What connections and files have to say to each other.
     pub moment: Moment,
+    /// Whether it is shown how far the reading is.
+    pub is_measured: bool,
 }
 
 impl<'a> Reading<'a, '_> {
@@ -165,6 +167,7 @@ fn list_after<'a, O: Sink + Drop, P: RecordSink + Lasting>(
     mut out: O,
     records: &mut HeardRecords<'_, 'a, '_, P>,
 ) -> Result<(), Incident<'a>> {
+    let has_state = state.is_some();
     let inlet = Inlet::new();
     let mut servers = ServersInTurn::new(rt, reading, &inlet);
     let mut keeper = StateKeeper::new(
@@ -185,11 +188,13 @@ fn list_after<'a, O: Sink + Drop, P: RecordSink + Lasting>(
         records,
         &mut keeper,
     );
-    match read {
+    let ended = match read {
         Ok(()) => Ok(()),
         Err(Break::Server(incident)) => server_ended(incident, reading),
         Err(Break::Listing(fault)) => Err(met_at(fault, servers.server(), keeper.site())),
-    }
+    };
+    records.finish(ended.is_ok() && !has_state);
+    ended
 }
 
 /// How a reading ended that no server mended: at its end, if nothing more came of its window.
@@ -414,6 +419,25 @@ fn lines_of(options: ReadOptions<'_>) -> PacketLines {
     }
 }
 
+/// Whether it is shown how far a reading is: one with an end, to files, whose lines don't show it.
+fn is_measured(options: ReadOptions<'_>) -> bool {
+    let has_files = match options.output {
+        Some(output) => output != "-",
+        None => options.archive.is_some(),
+    };
+    options.fetch && has_files && is_terminal() && (options.is_quiet || !is_output_terminal())
+}
+
+/// What is said of records that would be written to a terminal.
+fn unshown() -> Failure {
+    Failure::by(
+        Reason::Write,
+        Some(
+            "records are bytes that a terminal doesn't show: name a file, or lead the output into one",
+        ),
+    )
+}
+
 /// When one of so many servers is left for its silence.
 fn patience_of(options: ReadOptions<'_>, count: usize) -> Patience {
     let is_window = options.last.is_some();
@@ -475,6 +499,7 @@ fn read_between<'a>(
         patience,
         lines: lines_of(options),
         moment: Moment::new(),
+        is_measured: is_measured(options),
     };
     read_to(rt, &reading, options)
 }
@@ -489,6 +514,7 @@ fn read_to<'a>(
     match (options.archive, options.output) {
         (Some(top), _) => list_and_archive(rt, reading, state, top),
         (None, None) => list_lines(rt, reading, state),
+        (None, Some("-")) if is_output_terminal() => Err(Incident::from(unshown())),
         (None, Some("-")) => list_records(rt, reading, state),
         (None, Some(path)) => list_and_add(rt, reading, state, path),
     }

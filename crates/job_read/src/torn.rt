@@ -2,6 +2,7 @@
 //! within a minute, and of a state with several lines of one station.
 use continued_files::ShortFile;
 use disk_files::FilePlace;
+use job_base::Several;
 use shown_lines::ShownLine;
 use std::fmt::{self, Display, Formatter, Write};
 
@@ -41,11 +42,13 @@ impl Display for ShortenedFile<'_> {
         match self.top {
             Some(top) => write!(
                 line,
-                "seedlinkd: {count} records in {top}/{name}, where {kept} were counted"
+                "seedlinkd: {}, where {kept} were counted, in {top}/{name}",
+                Several::records(count)
             ),
             None => write!(
                 line,
-                "seedlinkd: {count} records in {name}, where {kept} were counted"
+                "seedlinkd: {}, where {kept} were counted, in {name}",
+                Several::records(count)
             ),
         }
     }

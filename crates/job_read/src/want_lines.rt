@@ -16,7 +16,7 @@ pub struct WantLine<'a> {
 }
 
 /// A line without the CR that may stand at its end.
-fn without_return(line: &[u8]) -> &[u8]
+pub fn without_return(line: &[u8]) -> &[u8]
     ensures { result.now ≡ without_return line.now }
 {
     match line.split_last() {

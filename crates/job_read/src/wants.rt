@@ -9,7 +9,7 @@ use crate::together::{Misfit, misfit_of};
 use crate::want_lines::want_lines;
 use command_line::ReadOptions;
 use incidents::{Detail, Failure, Incident, Place};
-use job_base::text_at;
+use job_base::{Endpoint, text_at};
 use slreader::{ReaderFault, Want, WantPart, Window};
 use std::alloc::{AllocError, Global};
 
@@ -39,9 +39,10 @@ struct WantText<'a, 'w> {
     text: &'w [u8],
 }
 
-/// The text of the file of wants; empty if there is none.
+/// The text of the file of wants, or of the standard input if its name is `-`; empty if there is none.
 pub fn wants_text<'a>(rt: &HostRuntime, path: Option<&'a str>) -> Result<Vec<u8>, Incident<'a>> {
     match path {
+        Some("-") => text_at(rt, "/dev/stdin"),
         Some(path) => text_at(rt, path),
         None => Ok(Vec::new(rt.alloc())),
     }
@@ -140,11 +141,19 @@ fn want_of<'a, 'w>(
     }
 }
 
+/// What is said of a text that is no want: if it is an address, that servers are one word.
+fn cause_of(text: &[u8], fault: ReaderFault) -> Option<&'static str> {
+    if Endpoint::parse(text).is_some() {
+        return Some("a WANT is an address: several servers are one word, with commas between them");
+    }
+    fault.cause()
+}
+
 /// A text that is no want in a window, and which part of it is wrong.
 fn unwanted<'a>(text: &WantText<'a, '_>, window: Window<'_>, fault: ReaderFault) -> Incident<'a>
     ensures { result.failure.reason ≡ reader_reason fault }
 {
-    let failure = Failure::by(fault.reason(), fault.cause());
+    let failure = Failure::by(fault.reason(), cause_of(text.text, fault));
     if failure.reason.is_memory() {
         return failure.at(Place::Nowhere);
     }

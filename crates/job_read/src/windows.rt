@@ -84,7 +84,7 @@ fn no_moment(fault: TimeFault) -> Failure
         }
     };
     Failure::by(fault.reason(), Some(cause)).allowing(
-        "a time in UTC, as 2024-02-29, 2024-02-29T00:00:00 or 2024,2,29,0,0,0",
+        "a time in UTC, as 2024-02-29, 2024-02-29T00:00:00 (or .0000, four digits) or 2024,2,29,0,0,0",
     )
 }
 

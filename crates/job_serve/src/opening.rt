@@ -14,8 +14,8 @@ use command_line::ServeOptions;
 use config_explained::{ConfigText, Remarked, open_to_everybody};
 use incidents::Incident;
 use job_base::{
-    ServerAddress, config_at, judged_config_at, plain_at, server_of, tell_list_remarks,
-    tell_remarks, tell_unknown_keys,
+    ServerAddress, config_at, is_terminal, judged_config_at, plain_at, server_of,
+    tell_list_remarks, tell_remarks, tell_unknown_keys,
 };
 use ports_socket::Admission;
 use std::alloc::Global;
@@ -127,12 +127,21 @@ pub fn served_by<'a>(
     })
 }
 
+/// Tells that everybody may feed, if nothing keeps others than this machine away.
+fn tell_open_feeds(rt: &HostRuntime, options: &ServeOptions<'_>) {
+    if options.feed_from.is_none() && !options.feed.starts_with("127.") {
+        let feed = options.feed;
+        let _ = eprint!(rt; "seedlinkd: without --feed-from everybody may feed at {feed}\n");
+    }
+}
+
 /// Names what lists admit that they don't look like: those of the configuration, and those of the words. Entries of the
 /// configuration that are `0.0.0.0/0` are not named: a server that is open to everybody would say so of each of its
 /// stations.
 fn tell_lists(rt: &HostRuntime, options: &ServeOptions<'_>, read: &ConfigText) {
     tell_remarks(rt, Remarked::OddEntries, read);
     tell_list_remarks(rt, "--feed-from", options.feed_from);
+    tell_open_feeds(rt, options);
     tell_list_remarks(rt, "--status-from", options.status_from);
 }
 
@@ -160,13 +169,18 @@ fn numbers_at<'a>(
     }
 }
 
+/// Whether it is told where the server listens: it logs, or the standard error is a terminal.
+pub fn is_start_told(options: &ServeOptions<'_>) -> bool {
+    options.is_logged || is_terminal()
+}
+
 /// How many stations everybody may use, if that is told.
 fn open_for<'a>(
     alloc: Global,
     options: &ServeOptions<'a>,
     read: &ConfigText,
 ) -> Result<usize, Incident<'a>> {
-    if !options.is_logged {
+    if !is_start_told(options) {
         return Ok(0);
     }
     match open_to_everybody(alloc, read) {

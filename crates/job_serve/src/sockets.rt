@@ -4,7 +4,7 @@ ghost use Rattle.std.specs.Prelude.{◌≡◌, ◌≤◌, ◌+◌, [], IfOk};
 use crate::counts::SharedCounts;
 use crate::in_force::ConfigSum;
 use crate::listening::unlistened_for;
-use crate::opening::{Served, ServerDoors, doors_of, served_by};
+use crate::opening::{Served, ServerDoors, doors_of, is_start_told, served_by};
 use crate::operator::{ServeRequest, no_memory, serve_by};
 use crate::starting::StartLine;
 use crate::status::{StatusDesk, listen_for_status};
@@ -106,8 +106,10 @@ fn serve_at<'a>(
     served: Box<Served<'a>>,
     lines: &SharedLines,
 ) -> Result<(), Incident<'a>> {
-    if request.options.is_logged {
+    if is_start_told(&request.options) {
         lines.tell(start_line(&listening, &served));
+    }
+    if request.options.is_logged {
         lines.tell(ConfigSum::of(served.files.read.text()));
     }
     let Listening { ports, status, .. } = listening;

@@ -71,7 +71,9 @@ pub fn run_job<'a>(
     is_verbose: bool,
 ) -> Result<Outcome, Incident<'a>> {
     match job {
-        Job::Check { files, options } => done(check_files(rt, files.as_slice(), options)),
+        Job::Check { files, options } => {
+            done(check_files(rt, files.as_slice(), options, is_verbose))
+        },
         Job::Replay {
             config,
             script,
