@@ -7,7 +7,7 @@ use std::env;
 
 /// Whether a variable has a text.
 fn has_text(value: Option<&str>) -> bool
-    ensures { result ≡ has_text (option_map (λ s. s.now) value) }
+    ensures { result ≡ has_text (option_map (λ s. s.now) value.entry) }
 {
     match value {
         Some(text) => !text.is_empty(),
@@ -17,15 +17,19 @@ fn has_text(value: Option<&str>) -> bool
 
 /// Whether the terminal that TERM names has colours.
 fn is_coloured(term: Option<&str>) -> bool
-    ensures { result ≡ is_coloured (option_map (λ s. s.now) term) }
+    ensures { result ≡ is_coloured (option_map (λ s. s.now) term.entry) }
 {
-    has_text(term) && term != Some("dumb")
+    match term {
+        Some(term) => !term.is_empty() && term != "dumb",
+        None => false,
+    }
 }
 
 /// Whether a terminal is written to in colours, by what the variables NO_COLOR and TERM are: not if NO_COLOR has a
 /// text, TERM has none, or it is `dumb`.
 pub fn allows_colours(no_color: Option<&str>, term: Option<&str>) -> bool
-    ensures { result ≡ allows_colours (option_map (λ s. s.now) no_color) (option_map (λ s. s.now) term) }
+    ensures { result ≡ allows_colours (option_map (λ s. s.now) no_color.entry)
+        (option_map (λ s. s.now) term.entry) }
 {
     !has_text(no_color) && is_coloured(term)
 }
