@@ -46,7 +46,7 @@ class Journal(kit.Test):
     def test_what_is_answered_ok_has_no_line(self):
         server = self.serve()
         client = self.keep(server.client())
-        client.say(b"STATION APE GE\rSELECT BHZ\rSELECT B?\rINFO ID\rEND\rDATA\r", OK + OK + OK + ERROR + ERROR + OK)
+        client.say(b"STATION APE GE\rSELECT BHZ\rSELECT BH?\rINFO ID\rEND\rDATA\r", OK + OK + OK + ERROR + ERROR + OK)
         client.say(b"STATION NONE\r", ERROR)
         server.await_said("STATION")
         self.assertEqual(said_of(server, "refused"), refused(0, "NONE"))
@@ -129,7 +129,7 @@ class Journal(kit.Test):
 
     def test_at_most_64_stations_of_a_transfer_have_a_line(self):
         names = ["S%02d" % number for number in range(70)]
-        server = self.serve('title = ""\nmax_connections = 10\n' + "".join(station("XX", it) for it in names))
+        server = self.serve('title = "Seventy stations"\nmax_connections = 10\n' + "".join(station("XX", it) for it in names))
         asked = lambda some: b"".join(b"STATION %b XX\rDATA\r" % it.encode() for it in some)
         client, another = self.keep(server.client()), self.keep(server.client())
         client.say(asked(names), OK * 140)

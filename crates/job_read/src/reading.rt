@@ -158,9 +158,9 @@ fn begun_after<P>(
 }
 
 /// The same, after the packets that were counted.
-fn list_after<'a, O: Sink + Drop, P: RecordSink + Lasting>(
-    rt: &HostRuntime,
-    reading: &Reading<'a, '_>,
+fn list_after<'a, 'r, O: Sink + Drop, P: RecordSink + Lasting>(
+    rt: &'r HostRuntime,
+    reading: &'r Reading<'a, '_>,
     tally: &mut Tally,
     state: Option<Box<StateFile<'a>>>,
     output: Option<SameFile<'a>>,

@@ -1,5 +1,7 @@
 //! What a server has before it listens: where it is to, whom it takes, and what its files say.
-ghost use Rattle.std.specs.Prelude.{◌≡◌, IfOk, IfSome, Some, is_some, map};
+ghost use Rattle.std.specs.Prelude.{◌≡◌, IfOk, IfSome, Ok, Some, is_some, map};
+ghost use Rattle.toml.specs.Parse.{parse_document};
+ghost use Rattle.catalog.specs.Reading.{config_read};
 ghost use Rattle.catalog.specs.Numbers.{numbered};
 ghost use Rattle.number_file.specs.Keeping.{AreKeepable};
 ghost use Rattle.job_base.specs.Endpoints.{endpoint_of, endpoint_value};
@@ -14,8 +16,8 @@ use command_line::ServeOptions;
 use config_explained::{ConfigText, Remarked, open_to_everybody};
 use incidents::Incident;
 use job_base::{
-    ServerAddress, config_at, is_terminal, judged_config_at, plain_at, server_of,
-    tell_list_remarks, tell_remarks, tell_unknown_keys,
+    ServerAddress, config_at, is_terminal, judged_config_in, plain_at, server_of,
+    tell_list_remarks, tell_remarks, tell_unknown_keys, text_at,
 };
 use ports_socket::Admission;
 use std::alloc::Global;
@@ -82,9 +84,12 @@ fn config_of<'a>(
     rt: &HostRuntime,
     path: &'a str,
     is_verbose: bool,
-) -> Result<ConfigText, Incident<'a>> {
+) -> Result<ConfigText, Incident<'a>>
+    ensures { IfOk result (λ read. config_read (parse_document read.text) ≡ Ok read.config) }
+{
     if is_verbose {
-        judged_config_at(rt, path)
+        let text = text_at(rt, path)?;
+        judged_config_in(rt, path, text)
     } else {
         config_at(rt, path)
     }
