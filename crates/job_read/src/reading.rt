@@ -157,6 +157,16 @@ fn begun_after<P>(
     Ok(tally)
 }
 
+/// Ends what is told of records as a reading ended, which is answered. With a state it isn't told that nothing came.
+fn finished<'a, P: RecordSink + Lasting>(
+    records: &mut HeardRecords<'_, 'a, '_, P>,
+    has_state: bool,
+    ended: Result<(), Incident<'a>>,
+) -> Result<(), Incident<'a>> {
+    records.finish(ended.is_ok() && !has_state);
+    ended
+}
+
 /// The same, after the packets that were counted.
 fn list_after<'a, 'r, O: Sink + Drop, P: RecordSink + Lasting>(
     rt: &'r HostRuntime,
@@ -188,13 +198,16 @@ fn list_after<'a, 'r, O: Sink + Drop, P: RecordSink + Lasting>(
         records,
         &mut keeper,
     );
-    let ended = match read {
-        Ok(()) => Ok(()),
-        Err(Break::Server(incident)) => server_ended(incident, reading),
-        Err(Break::Listing(fault)) => Err(met_at(fault, servers.server(), keeper.site())),
-    };
-    records.finish(ended.is_ok() && !has_state);
-    ended
+    match read {
+        Ok(()) => finished(records, has_state, Ok(())),
+        Err(Break::Server(incident)) => {
+            finished(records, has_state, server_ended(incident, reading))
+        }
+        Err(Break::Listing(fault)) => {
+            let incident = met_at(fault, servers.server(), keeper.site());
+            finished(records, has_state, Err(incident))
+        }
+    }
 }
 
 /// How a reading ended that no server mended: at its end, if nothing more came of its window.
