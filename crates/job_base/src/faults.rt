@@ -21,8 +21,8 @@ fn tell_fault(rt: &HostRuntime, text: &[u8], error: &ConfigError) {
     }
 }
 
-/// Names each fault of a configuration's text, if it has several: a line each on the standard error, at most 64, and one
-/// more with the count of the others. Without memory it names none.
+/// Names each fault of a configuration's text, if it has several: a line each on the standard error, at most 64, and
+/// one more with the count of the others. Without memory it names none.
 pub(crate) fn tell_faults(rt: &HostRuntime, text: &[u8]) {
     let Ok(faults) = faults_of(rt.alloc(), text) else {
         return;

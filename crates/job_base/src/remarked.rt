@@ -2,8 +2,8 @@
 use crate::telling::tell_lines;
 use config_explained::{ConfigText, Remarked, list_remarks, remarks};
 
-/// Names the entries of a configuration's lists that admit something else than they look like, a line each on the standard
-/// error. Without memory it names none.
+/// Names the entries of a configuration's lists that admit something else than they look like, a line each on the
+/// standard error. Without memory it names none.
 pub fn tell_remarks(rt: &HostRuntime, which: Remarked, read: &ConfigText) {
     if let Ok(lines) = remarks(rt.alloc(), which, read) {
         tell_lines(rt, lines.as_slice());

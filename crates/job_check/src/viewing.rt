@@ -247,9 +247,9 @@ fn write_view<'a>(
 /// Writes what an address sees of the configuration in a file, or how much of a network sees each station, or who may
 /// use a station of it, or what another configuration changes, or all stations with whom they are open to. In the last
 /// case entries of lists that admit something else than they look like, and groups that no list names, are named on the
-/// standard error. So are keys that are not known, and if the options are strict the configuration is refused for them. If it is compared with
-/// another one, the keys of that are named instead. A configuration that is refused has each of its faults named there, if
-/// it has several.
+/// standard error. So are keys that are not known, and if the options are strict the configuration is refused for them.
+/// If it is compared with another one, the keys of that are named instead. A configuration that is refused has each of
+/// its faults named there, if it has several.
 pub fn view_file<'a>(rt: &HostRuntime, options: ViewOptions<'a>) -> Result<(), Incident<'a>> {
     let read = judged_config_at(rt, options.config)?;
     if !matches!(asked_in(&options), ViewAsked::Other(_)) {

@@ -220,9 +220,9 @@ impl<'r> ToldArchive<'r> {
         }
     }
 
-    /// Tells what was found at the last record: a torn file, a file that is shorter than was counted, that as many files
-    /// were made within a minute as may be, and how many records have no place, as far as that is due. After a file that
-    /// was too short a state is to be kept at once.
+    /// Tells what was found at the last record: a torn file, a file that is shorter than was counted, that as many
+    /// files were made within a minute as may be, and how many records have no place, as far as that is due. After a
+    /// file that was too short a state is to be kept at once.
     fn tell(&mut self)
         ensures { self.new.failures ≡ self.old.failures }
     {

@@ -105,7 +105,8 @@ impl<'r> RenewedReader<'r> {
         shorter(self.renewal.left(self.rt), silence)
     }
 
-    /// How many milliseconds there are until it is told that nothing has come since a moment. It is told if that is now.
+    /// How many milliseconds there are until it is told that nothing has come since a moment. It is told if that is
+    /// now.
     fn left_to_tell(&mut self, begun: u64, now: u64) -> Option<u64> {
         if !self.is_told {
             return None;

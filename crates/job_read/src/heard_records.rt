@@ -1,5 +1,5 @@
-//! Records on their way to where they are put, of which it is told what a reader meets: a station that is refused, and a
-//! jump in the numbers of one.
+//! Records on their way to where they are put, of which it is told what a reader meets: a station that is refused, and
+//! a jump in the numbers of one.
 ghost use Rattle.std.specs.Prelude.{◌≡◌};
 
 use crate::hearing::Listener;

@@ -1,4 +1,5 @@
-//! What is reported of what a reader is given: each jump in the numbers of a station of which all records are asked for.
+//! What is reported of what a reader is given: each jump in the numbers of a station of which all records are asked
+//! for.
 ghost use Rattle.std.specs.Prelude.{◌≡◌, ◌&&◌};
 ghost use Rattle.slreader.specs.WantTexts.{action_value};
 ghost use Rattle.job_read.specs.Hearing.{are_whole, is_open, is_whole, spares};

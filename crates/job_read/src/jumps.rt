@@ -2,7 +2,8 @@
 //!
 //! A number that is not the next one may mean that records are missing, or that the server counts anew. The records say
 //! which: if none of a stream's time is missing since its last packet, the numbers alone have jumped. A jump is seen at
-//! one packet, and time may be missing in the streams of those behind it, so each stream is looked at once after a jump.
+//! one packet, and time may be missing in the streams of those behind it, so each stream is looked at once after a
+//! jump.
 ghost use Rattle.std.specs.Prelude.{◌≡◌, ◌+◌, ◌^◌, min};
 ghost use Rattle.job_read.specs.Hearing.{allowed, event_at, is_jump_after, jump_told, jump_with, limit_after};
 ghost use Rattle.job_read.specs.Hearing.{numbers_with};

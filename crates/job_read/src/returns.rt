@@ -1,15 +1,15 @@
 //! Numbers of stations that don't follow on each other: the server is behind another one, or numbers anew, and may hand
 //! records once more.
 //!
-//! A jump forth at the beginning of a connection is one, too, if all records of the station are asked for: a server that
-//! numbers for itself may be ahead. To take one for such a server costs that files are read once, not to do so doubles
-//! records. The first packet of a station is one in an archive, which may have records of it, and none in one file: what
-//! stands there before is left as it is.
+//! A jump forth at the beginning of a connection is one, too, if all records of the station are asked for: a server
+//! that numbers for itself may be ahead. To take one for such a server costs that files are read once, not to do so
+//! doubles records. The first packet of a station is one in an archive, which may have records of it, and none in one
+//! file: what stands there before is left as it is.
 //!
 //! A return is one of a station: the files of others are not read for it. But a station that is asked for by patterns
-//! has numbers that always jump, so a jump forth of it can't be seen: it returns, too, with its next packet, once another
-//! one does. One file has the records of all stations, so all of it is tail from the first return on, and a station
-//! whose packets have not come since needs none.
+//! has numbers that always jump, so a jump forth of it can't be seen: it returns, too, with its next packet, once
+//! another one does. One file has the records of all stations, so all of it is tail from the first return on, and a
+//! station whose packets have not come since needs none.
 ghost use Rattle.std.specs.Prelude.{◌≡◌, ◌≢◌, ◌<◌, IfSome, Some, ℕ, false, true, length, map, option_map};
 ghost use Rattle.std.specs.Prelude.{slice_get};
 ghost use Rattle.job_read.specs.Returns.{is_jump, is_return, jumps, mark_after, marked_if, passed};
@@ -232,7 +232,8 @@ impl LastNumbers {
         None
     }
 
-    /// A packet with that number came, of the station at a place. Answers whether all of each of its files is to be tail.
+    /// A packet with that number came, of the station at a place. Answers whether all of each of its files is to be
+    /// tail.
     fn note_at(&mut self, at: usize, connection: u64, number: Seq) -> bool
         requires { at < length self.old.all.items }
         ensures returns { IfSome (slice_get self.old.all.items at) (λ n. (result ≡ is_return n connection number)
@@ -265,8 +266,8 @@ impl LastNumbers {
         Some(Noted { at, is_return })
     }
 
-    /// A record of the station at a place was added or passed over. Answers whether none comes any more that stands in a
-    /// tail: of its files, or of the one file of all stations.
+    /// A record of the station at a place was added or passed over. Answers whether none comes any more that stands in
+    /// a tail: of its files, or of the one file of all stations.
     pub fn count(&mut self, at: usize, is_passed: bool) -> bool
         ensures one { self.old.is_archive ≡ false → (result ≡ is_full self.old.row is_passed)
             × (self.new.row ≡ row_after self.old.row is_passed) }

@@ -1,9 +1,9 @@
 //! Records that are added one after the other, by which it is known that none comes any more that stands in a tail.
 //!
 //! A server holds at most 65,536 records of a station, and hands them in the order in which they came. So one that it
-//! still had to hand is among the next 65,536: once as many were added, none of which stood in a tail, no such one comes
-//! any more of what it held when the first of them was handed. What is fed to it anew meanwhile, as by a planned restart,
-//! comes in its order too, each soon after the one before, and each of them begins the row anew.
+//! still had to hand is among the next 65,536: once as many were added, none of which stood in a tail, no such one
+//! comes any more of what it held when the first of them was handed. What is fed to it anew meanwhile, as by a planned
+//! restart, comes in its order too, each soon after the one before, and each of them begins the row anew.
 ghost use Rattle.std.specs.Prelude.{◌≡◌};
 ghost use Rattle.job_read.specs.Rows.{is_full, row_after};
 
@@ -44,7 +44,8 @@ impl Row {
         self.count = 0;
     }
 
-    /// A record was added, or passed over. Answers whether so many were added as the limit says; then the row begins anew.
+    /// A record was added, or passed over. Answers whether so many were added as the limit says; then the row begins
+    /// anew.
     pub fn note(&mut self, is_passed: bool) -> bool
         ensures full { result ≡ is_full self.old is_passed }
         ensures after { self.new ≡ row_after self.old is_passed }

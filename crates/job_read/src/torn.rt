@@ -1,5 +1,5 @@
-//! What is told of a file that ended inside a record or has fewer records than were counted, of many files that are made
-//! within a minute, and of a state with several lines of one station.
+//! What is told of a file that ended inside a record or has fewer records than were counted, of many files that are
+//! made within a minute, and of a state with several lines of one station.
 use continued_files::ShortFile;
 use disk_files::FilePlace;
 use job_base::Several;

@@ -363,8 +363,8 @@ impl<'a> Operator<'_, 'a, '_> {
     }
 
     /// What a text of the configuration comes to: nothing, if it is the one in force, byte for byte, or if it is strict
-    /// and finds the text for the first time. Else it is the configuration that it spells, with what the file of numbers
-    /// said; the text takes the place of the one in force if they differ in access lists alone.
+    /// and finds the text for the first time. Else it is the configuration that it spells, with what the file of
+    /// numbers said; the text takes the place of the one in force if they differ in access lists alone.
     fn taken_of(&mut self, text: Vec<u8>) -> Result<Option<Config>, Incident<'a>>
         ensures same { text.items ≡ self.old.read.text → result ≡ Ok None }
         ensures again { self.old.is_strict ≡ true → text.items ≢ self.old.seen.items → result ≡ Ok None }

@@ -27,7 +27,8 @@ pub struct StartLine {
 }
 
 impl Display for StartLine {
-    /// `serving 5 stations, 3 open to everybody, at 0.0.0.0:18000, feeds at 127.0.0.1:18001, status at 127.0.0.1:18002`.
+    /// `serving 5 stations, 3 open to everybody, at 0.0.0.0:18000, feeds at 127.0.0.1:18001, status at
+    /// 127.0.0.1:18002`.
     fn fmt<W: Write>(&self, f: &mut Formatter<W>) -> fmt::Result {
         let stations = Several {
             count: self.stations,

@@ -36,7 +36,8 @@ impl ToldOnce {
         }
     }
 
-    /// Whether a line is to be told now: it is another one than the one that was told last, or an hour has passed since.
+    /// Whether a line is to be told now: it is another one than the one that was told last, or an hour has passed
+    /// since.
     pub fn is_due(&self, line: &[u8], now: Option<u64>) -> bool
         ensures { result ≡ is_due self.now.line.items self.now.told line.now now }
     {

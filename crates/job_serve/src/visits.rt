@@ -55,9 +55,8 @@ impl SharedLines {
 }
 
 /// A journal whose entries are lines, as `seedlinkd: open 17 10.0.0.7`. Of records that were refused it writes one for
-/// each cause of a feed, and for each unknown station one an hour; of stations that a client was refused one each, up to
-/// 64 a client. It counts what a status port tells of visits, if
-/// there is one.
+/// each cause of a feed, and for each unknown station one an hour; of stations that a client was refused one each, up
+/// to 64 a client. It counts what a status port tells of visits, if there is one.
 #[derive(Drop)]
 pub struct VisitLines<'l> {
     rt: &'l HostRuntime,

@@ -71,8 +71,8 @@ fn is_silent_by(code: u16) -> Option<bool>
     }
 }
 
-/// Why a body is not taken whose length no field says: it is not complete, or, if no field says any, it is not that of a
-/// status port.
+/// Why a body is not taken whose length no field says: it is not complete, or, if no field says any, it is not that of
+/// a status port.
 fn unfinished(bytes: &[u8], fields: &[HeaderSpan]) -> StatusFault
     requires { All (IsHeaderWithin (length bytes.now)) fields.now }
 {

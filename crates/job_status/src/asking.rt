@@ -119,9 +119,10 @@ fn take_answer(rt: &HostRuntime, stream: &TcpStream) -> Result<Vec<u8>, Failure>
     Err(unanswered(bytes.len()))
 }
 
-/// Asks a status port for its tables of those stations over a connection, and takes what it answers. It fails with Status Quiet if
-/// nothing came for ten seconds, with Status Closed if the connection ended before anything came, with Status Ended if
-/// it ended later, the answer was not there after ten seconds or is longer than 4 MiB, and for want of memory.
+/// Asks a status port for its tables of those stations over a connection, and takes what it answers. It fails with
+/// Status Quiet if nothing came for ten seconds, with Status Closed if the connection ended before anything came, with
+/// Status Ended if it ended later, the answer was not there after ten seconds or is longer than 4 MiB, and for want of
+/// memory.
 pub fn ask(rt: &HostRuntime, stream: &TcpStream, stations: Stations) -> Result<Vec<u8>, Failure> {
     put_question(stream, stations)?;
     take_answer(rt, stream)

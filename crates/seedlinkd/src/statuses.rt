@@ -69,8 +69,8 @@ pub fn told(rt: &HostRuntime, text: &str, is_help: bool) -> ExitCode
 }
 
 /// Does the job that the words of a command line ask, of which the first is the program's name. If they are a job, the
-/// status is 0, 1 or 3, as `status_of` has it, or 1 if memory for the words ran out. It is never 0 if they are a mistake.
-/// A fault is explained if the words ask for that, or if standard error is a terminal.
+/// status is 0, 1 or 3, as `status_of` has it, or 1 if memory for the words ran out. It is never 0 if they are a
+/// mistake. A fault is explained if the words ask for that, or if standard error is a terminal.
 pub fn obey(rt: &HostRuntime, words: &[String]) -> ExitCode
     ensures job { IsJob (map string_bytes words.now) →
         (exit_status result ≡ 0) ⊎ ((exit_status result ≡ 1) ⊎ (exit_status result ≡ 3)) }

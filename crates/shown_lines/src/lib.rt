@@ -11,8 +11,8 @@ use std::fmt::{self, Display, Formatter, Write};
 /// How many bytes a line has at most, without its end.
 const MOST: usize = 200;
 
-/// A character as it is shown: `?` for one that controls a terminal, which are those below the space, and those from the
-/// delete (U+007F) to U+009F, which eight-bit terminals obey: U+009B begins a sequence there as escape and `[` do.
+/// A character as it is shown: `?` for one that controls a terminal, which are those below the space, and those from
+/// the delete (U+007F) to U+009F, which eight-bit terminals obey: U+009B begins a sequence there as escape and `[` do.
 fn shown(c: char) -> char
     ensures { result ≡ spec_shown c }
 {

@@ -115,8 +115,8 @@ fn asked_by(bytes: &[u8], fields: &[HeaderSpan], head: RequestSpans, name: &[u8]
     request
 }
 
-/// What the bytes that came ask of a server of a name, if they hold the head of a request with at most 64 fields. Else what is wrong with
-/// them; None if more bytes may complete a head and more are taken.
+/// What the bytes that came ask of a server of a name, if they hold the head of a request with at most 64 fields. Else
+/// what is wrong with them; None if more bytes may complete a head and more are taken.
 pub fn request_in(bytes: &[u8], is_full: bool, name: &[u8]) -> Option<StatusRequest>
     ensures asked { (head : RequestHead) (rest : List ℕ) → ReadsRequest bytes.now head rest →
         length head.fields ≤ MAX_FIELDS → result ≡ Some (asked_by name.now head) }
