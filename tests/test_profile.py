@@ -10,7 +10,7 @@ import kit
 
 STATION = '[[station]]\nnetwork = "%s"\ncode = "%s"\ndescription = ""\ncapacity = 256\n'
 ISLAND = 'title = "Island"\n' + "".join(STATION % it for it in (("GE", "APE"), ("GE", "WLF"), ("XX", "APE")))
-JOBS = ("serve", "feed", "read", "view", "check", "replay")
+JOBS = ("serve", "feed", "read", "view", "check", "replay", "status")
 KINDS = {"Text": "text", "WholeNumber": "whole number", "Table": "table", "Tables": "array of tables"}
 
 
@@ -135,9 +135,9 @@ class Tables(kit.Test):
 
     @kit.unreleased
     def test_lines_of_help_fit_a_terminal(self):
-        for words in ((), *((it,) for it in (*JOBS, "status"))):
+        for words in ((), *((it,) for it in JOBS)):
             for line in self.run_program(*words, "--help").printed.splitlines():
-                self.assertTrue(len(line) <= 82 or line.startswith("Usage:"), line)
+                self.assertTrue(len(line) <= 80 or line.startswith("Usage:"), line)
 
     @kit.unreleased
     def test_usages_are_those_of_help(self):

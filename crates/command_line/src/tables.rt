@@ -222,5 +222,8 @@ pub static STATUS: [Argument<'static>; 2] = [
         "SERVER",
         "Address and port of --status of a server, as 127.0.0.1:18002",
     ),
-    Flag("silent", "Prints the counts and the silent stations alone"),
+    Flag(
+        "silent",
+        "Prints the counts and the silent stations alone\n(default: off)",
+    ),
 ];
