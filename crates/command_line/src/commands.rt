@@ -123,7 +123,8 @@ fn read_command<'a>(alloc: Global) -> Built<'a>
 fn status_command<'a>(alloc: Global) -> Built<'a>
     ensures { Builds result status_app }
 {
-    let about = "Prints how a server stands, by its status port; ends with 3 if a\nstation is silent";
+    let about =
+        "Prints how a server stands, by its status port; ends with 3 if a\nstation is silent";
     command_by(alloc, "status", about, &STATUS)
 }
 
