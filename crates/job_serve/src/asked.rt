@@ -1,7 +1,8 @@
 //! Which lines tell of the stations that clients ask for: of each that was refused once a client, and of those of a
 //! transfer that begins.
-ghost use Rattle.std.specs.Prelude.{◌≡◌, ◌<◌, IfSome, length};
+ghost use Rattle.std.specs.Prelude.{◌≡◌, ◌<◌, ◌-◌, [], IfOk, IfSome, length, nat_lt};
 ghost use Rattle.job_serve.specs.AskedStations.{is_due};
+ghost use Rattle.job_serve.specs.Refusals.{one_more};
 
 use ports::AskedCodes;
 use ports_logged::Visit;
@@ -116,7 +117,11 @@ pub struct AskedLog {
 
 impl AskedLog {
     /// Nothing was told of so many clients at most. It fails only for want of memory.
-    pub fn new(alloc: Global, clients: usize) -> Result<AskedLog, AllocError> {
+    pub fn new(alloc: Global, clients: usize) -> Result<AskedLog, AllocError>
+        ensures stations { IfOk result (λ log. log.stations.items ≡ []) }
+        ensures askers { IfOk result (λ log. log.askers.items ≡ []) }
+        ensures reads { IfOk result (λ log. log.reads ≡ 0) }
+    {
         let stations = Vec::with_capacity(alloc, if clients == 0 { 0 } else { STATIONS })?;
         let askers = Vec::with_capacity(alloc, clients)?;
         Ok(AskedLog {
@@ -179,14 +184,20 @@ impl AskedLog {
         gone.more
     }
 
-    /// One more station is told of a transfer that is to begin. Whether a line tells it.
-    pub fn add_read(&mut self) -> bool {
+    /// One more station is told of a transfer that is to begin. Whether a line tells it: 64 of them have one.
+    pub fn add_read(&mut self) -> bool
+        ensures line { result ≡ nat_lt self.old.reads 64 }
+        ensures count { self.new ≡ record self.old { reads = one_more self.old.reads } }
+    {
         self.reads = self.reads.saturating_add(1);
         self.reads <= LINES
     }
 
     /// The transfer begins. How many of its stations no line told.
-    pub fn begin(&mut self) -> usize {
+    pub fn begin(&mut self) -> usize
+        ensures more { result ≡ self.old.reads - 64 }
+        ensures begins { self.new ≡ record self.old { reads = 0 } }
+    {
         let all = self.reads;
         self.reads = 0;
         all.saturating_sub(LINES)
