@@ -1,8 +1,10 @@
 -- What the loop says of a client's negotiation.
--- The loop is this project's own. Left out: whether anybody hears it.
-use Rattle.std.specs.Prelude.{ℕ, List, [], ◌∷◌, ◌++◌, Option, Some, None, flat_map, map, slice_index_or}
+-- The loop is this project's own.
+use Rattle.std.specs.Prelude.{◌≡◌, ℕ, Bool, true, false, List, [], ◌∷◌, ◌++◌, Option, Some, None, flat_map, map}
+use Rattle.std.specs.Prelude.{slice_index_or}
 use Rattle.protocol.specs.Catalog.{Config, Station}
 use Rattle.catalog.specs.Places.{station_at}
+use Rattle.ports.specs.Decisions.{Decides}
 use Rattle.ports.specs.declared.decisions.AskedCodes.{AskedCodes}
 use Rattle.ports.specs.declared.decisions.Decision.{Decision}
 use Rattle.ports.specs.declared.decisions.Decision.TheVariants.{Begins, NoStation, Reads}
@@ -18,7 +20,7 @@ use Rattle.session_state.specs.Choices.{chosen_of}
 use Rattle.session_state.specs.NamedValues.{entry_of}
 use Rattle.session_state.specs.NewsValues.{asked_by}
 use Rattle.session_state.specs.Sessions.{SessionValue}
-use Rattle.server_core.specs.ServerValues.{ServerValue}
+use Rattle.server_core.specs.ServerValues.{ServerValue, news_at}
 
 -- the codes of a station that was asked for, for the ports
 abbrev pub codes_of : AskedStation → AskedCodes
@@ -65,3 +67,18 @@ abbrev pub news_said : ServerValue → (port k : ℕ) → Option News → List (
 news_said server port k None = []
 news_said server port k (Some (news.NoStation asked)) = (port, NoStation (codes_of asked)) ∷ []
 news_said server port k (Some news.Begins) = begin_said server port k
+
+-- What is said between the two of what the k-th client has to tell: all of it, after which nothing is left, if the
+-- ports listen; and else nothing, and the server is not asked.
+pub data TellsNews (listening : Bool) (server server' : ServerValue) (port k : ℕ) (old new : Option (List (ℕ × Decision)))
+    : Type 0 where
+  all : listening ≡ true → Decides old new (news_said server' port k (news_at server k)) → news_at server' k ≡ None
+      → TellsNews listening server server' port k old new
+  nothing : listening ≡ false → new ≡ old → server' ≡ server → TellsNews listening server server' port k old new
+
+-- The same after a call of the server that may have left something to tell: all that it left is said if the ports
+-- listen, and else nothing.
+pub record HasTold (listening : Bool) (server' : ServerValue) (port k : ℕ) (old new : Option (List (ℕ × Decision)))
+    : Type 0 where
+  pub between : ServerValue
+  pub tells : TellsNews listening between server' port k old new

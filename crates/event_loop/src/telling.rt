@@ -13,8 +13,8 @@ ghost use Rattle.ports.specs.Decisions.{Decides};
 ghost use Rattle.server_core.specs.Marks.{LeavesOthers};
 ghost use Rattle.server_core.specs.Refusals.{offer_of};
 ghost use Rattle.server_core.specs.ServerValues.{MayTake, StandsAt, news_at};
-ghost use Rattle.event_loop.specs.Telling.{codes_of, begin_said, mode_of, news_said, place_codes, request_said};
-ghost use Rattle.event_loop.specs.Telling.{requests_said};
+ghost use Rattle.event_loop.specs.Telling.{HasTold, TellsNews, codes_of, begin_said, mode_of, news_said};
+ghost use Rattle.event_loop.specs.Telling.{place_codes, request_said, requests_said};
 
 use catalog::Config;
 use ports::{AskedCodes, Decision, Mode, Ports};
@@ -108,6 +108,21 @@ pub fn tell_news<P: Ports>(server: &mut Server, ports: &mut P, port: u64, client
     }
 }
 
+/// The same if anybody hears it, and else nothing is said and nothing asked.
+fn tell_if_heard<P: Ports>(server: &mut Server, ports: &mut P, port: u64, client: &Client)
+    ensures calls { P.calls ports.new ≡ P.calls ports.old }
+    ensures failures { P.failures ports.new ≡ P.failures ports.old }
+    ensures decides { TellsNews (P.listening ports.old) server.old server.new port client.now
+        (P.decided ports.old) (P.decided ports.new) }
+    ensures stands { (config : ProtocolConfig) (w : World) → StandsAt server.old config w →
+        StandsAt server.new config w }
+    ensures others { LeavesOthers client.now server.old server.new }
+{
+    if ports.listens() {
+        tell_news(server, ports, port, client);
+    }
+}
+
 /// Bytes come from a client, and what comes of its negotiation is said if anybody hears it.
 pub fn receive<P: Ports>(
     server: &mut Server,
@@ -121,11 +136,11 @@ pub fn receive<P: Ports>(
     ensures stands { (config : ProtocolConfig) (w : World) → StandsAt server.old config w →
         StandsAt server.new config (step config w (Bytes client.now bytes.now)) }
     ensures others { LeavesOthers client.now server.old server.new }
+    ensures decides { HasTold (P.listening ports.old) server.new port client.now
+        (P.decided ports.old) (P.decided ports.new) }
 {
     let _ = server.receive(client, bytes);
-    if ports.listens() {
-        tell_news(server, ports, port, client);
-    }
+    tell_if_heard(server, ports, port, client);
 }
 
 /// The first bytes that wait for a client, 1 to all of them, were handed, and what comes of its negotiation is said if
@@ -137,11 +152,11 @@ pub fn took<P: Ports>(server: &mut Server, ports: &mut P, port: u64, client: &Cl
     ensures stands { (config : ProtocolConfig) (w : World) → StandsAt server.old config w →
         StandsAt server.new config (step config w (Take client.now count)) }
     ensures others { LeavesOthers client.now server.old server.new }
+    ensures decides { HasTold (P.listening ports.old) server.new port client.now
+        (P.decided ports.old) (P.decided ports.new) }
 {
     let _ = server.took(client, count);
-    if ports.listens() {
-        tell_news(server, ports, port, client);
-    }
+    tell_if_heard(server, ports, port, client);
 }
 
 /// The same, and what comes next is made to wait. It answers what was found.
@@ -161,10 +176,10 @@ pub fn go_on<P: Ports>(
         result_ok result ≡ option_map (λ c. offer_of (offered w.history c))
         (client_of (slice_get (step config w (Take client.now count)).connections client.now)) }
     ensures others { LeavesOthers client.now server.old server.new }
+    ensures decides { HasTold (P.listening ports.old) server.new port client.now
+        (P.decided ports.old) (P.decided ports.new) }
 {
     let found = server.go_on(client, count);
-    if ports.listens() {
-        tell_news(server, ports, port, client);
-    }
+    tell_if_heard(server, ports, port, client);
     found
 }

@@ -1,5 +1,5 @@
 //! Lines that several parts of a server write, and among them who comes and goes.
-ghost use Rattle.std.specs.Prelude.{[], ◌∷◌, None};
+ghost use Rattle.std.specs.Prelude.{◌≡◌, [], ◌∷◌, None, is_some};
 ghost use Rattle.ports_logged.specs.Visits.{Notes, Passes};
 
 use crate::asked::{AskedLog, CloseLine, MoreReadLine};
@@ -176,6 +176,8 @@ impl Journal for VisitLines<'_> {
 
     ghost passed = { λ _. None };
 
+    ghost listening = { λ s. is_some s.lines };
+
     fn note(&mut self, visit: Visit)
         ensures notes { Notes None None (visit ∷ []) }
     {
@@ -196,7 +198,9 @@ impl Journal for VisitLines<'_> {
     }
 
     /// If lines are written.
-    fn listens(&self) -> bool {
+    fn listens(&self) -> bool
+        ensures { result ≡ is_some self.now.lines }
+    {
         self.lines.is_some()
     }
 

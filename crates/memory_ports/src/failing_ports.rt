@@ -73,6 +73,8 @@ impl<P: Ports> Ports for FailingPorts<P> {
 
     ghost room = { λ s port. P.room s.inner port };
 
+    ghost listening = { λ s. P.listening s.inner };
+
     fn next(&mut self) -> Result<Happening, PortFault>
         ensures call { Tells (told self.old.log) (told self.new.log) (Next result ∷ []) }
         ensures failure { CountsFailure self.old.log.failures self.new.log.failures result }
@@ -184,5 +186,11 @@ impl<P: Ports> Ports for FailingPorts<P> {
         ensures due { self.new.due ≡ self.old.due }
     {
         self.inner.tell(port, decision);
+    }
+
+    fn listens(&self) -> bool
+        ensures { result ≡ P.listening self.now.inner }
+    {
+        self.inner.listens()
     }
 }

@@ -3,7 +3,8 @@
 //! Ports in memory whose record can't grow tell nothing from then on. The call that found no memory fails and counts as
 //! a failure, but for `shut` and `write_pieces`, which have no answer. `MemoryPorts::record` copies what a port gave
 //! and took out of the calls, and so allocates.
-ghost use Rattle.std.specs.Prelude.{◌≡◌, ◌<◌, ◌≤◌, ◌^◌, ℕ, List, Some, [], ◌∷◌, IfOk, IsSome, OnOk, length, map};
+ghost use Rattle.std.specs.Prelude.{◌≡◌, ◌<◌, ◌≤◌, ◌^◌, ℕ, false, List, Some, [], ◌∷◌, IfOk, IsSome, OnOk};
+ghost use Rattle.std.specs.Prelude.{length, map};
 ghost use Rattle.std.specs.List.{All, concat};
 ghost use Rattle.std.specs.Vec.{vec_capacity};
 ghost use Rattle.sl_io.specs.Counts.{CountsFailure};
@@ -78,6 +79,8 @@ impl Ports for MemoryPorts {
 
     ghost room = { λ _ _. 2 ^ 64 };
 
+    ghost listening = { λ _. false };
+
     fn next(&mut self) -> Result<Happening, PortFault>
         ensures call { Tells (told self.old.log) (told self.new.log) (Next result ∷ []) }
         ensures failure { CountsFailure self.old.log.failures self.new.log.failures result }
@@ -142,5 +145,9 @@ impl Ports for MemoryPorts {
 
     fn tell(&mut self, port: u64, decision: Decision) {
         self.log.decide(port, decision);
+    }
+
+    fn listens(&self) -> bool {
+        false
     }
 }

@@ -3,7 +3,7 @@
 //! those in memory do.
 #![tactic(auto)]
 
-ghost use Rattle.std.specs.Prelude.{ℕ, ◌≡◌, ◌<◌, ◌≤◌, List, [], ◌∷◌, length, map};
+ghost use Rattle.std.specs.Prelude.{ℕ, ◌≡◌, ◌<◌, ◌≤◌, Bool, List, [], ◌∷◌, length, map};
 ghost use Rattle.std.specs.List.{All, concat};
 ghost use Rattle.std.specs.Vec.{vec_capacity};
 ghost use Rattle.std.specs.declared.option.Option.{Option};
@@ -37,6 +37,9 @@ pub trait Ports {
 
     // How many bytes a port is sure to take by the next call of `write_pieces`.
     ghost room: { Self → ℕ → ℕ };
+
+    // Whether anybody hears what is said of a client's negotiation.
+    ghost listening: { Self → Bool };
 
     /// What happened next.
     fn next(&mut self) -> Result<Happening, PortFault>
@@ -98,9 +101,8 @@ pub trait Ports {
 
     /// Whether anybody hears what is said of a client's negotiation (NoStation, Reads, Begins). If nobody does, it need
     /// not be said.
-    fn listens(&self) -> bool {
-        false
-    }
+    fn listens(&self) -> bool
+        ensures { result ≡ listening self.now };
 
     /// The client at a port, if one is there and the ports follow who is. Those that follow nobody know none.
     fn present(&self, _port: u64) -> Option<PresentClient> {

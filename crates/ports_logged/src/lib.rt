@@ -6,7 +6,7 @@
 //! ports are made. Left out: when something is noted.
 #![tactic(auto)]
 
-ghost use Rattle.std.specs.Prelude.{ℕ, ◌≡◌, ◌∷◌, [], List};
+ghost use Rattle.std.specs.Prelude.{ℕ, ◌≡◌, ◌∷◌, [], Bool, List};
 ghost use Rattle.std.specs.declared.option.Option.{Option};
 ghost use Rattle.std.specs.declared.net.ipv4_addr.Ipv4Addr.{Ipv4Addr};
 ghost use Rattle.ports_logged.specs.declared.visit.Away.{Away};
@@ -50,6 +50,9 @@ pub trait Journal {
     // What ports took, a call after the other, if the journal tells it.
     ghost passed: { Self → Option (List Sent) };
 
+    // Whether it wants to hear of the stations that clients ask for.
+    ghost listening: { Self → Bool };
+
     /// Notes what happened of a visit.
     fn note(&mut self, visit: Visit)
         ensures notes { Notes (noted self.old) (noted self.new) (visit ∷ []) }
@@ -61,9 +64,8 @@ pub trait Journal {
         ensures passed { Passes (passed self.old) (passed self.new) (sent ∷ []) };
 
     /// Whether it wants to hear of the stations that clients ask for.
-    fn listens(&self) -> bool {
-        false
-    }
+    fn listens(&self) -> bool
+        ensures { result ≡ listening self.now };
 
     /// The ports have said what happened, for which they may have waited. The time, in milliseconds since the server
     /// began, if the journal looks at a clock, and else any.

@@ -192,6 +192,8 @@ impl<P: Doors, J: Journal> Ports for LoggedPorts<P, J> {
 
     ghost room = { λ s port. P.room s.inner port };
 
+    ghost listening = { λ s. J.listening s.journal };
+
     fn next(&mut self) -> Result<Happening, PortFault>
         ensures call { Tells (P.calls self.old.inner) (P.calls self.new.inner) (Next result ∷ []) }
         ensures failure { CountsFailure (P.failures self.old.inner) (P.failures self.new.inner) result }
@@ -317,7 +319,9 @@ impl<P: Doors, J: Journal> Ports for LoggedPorts<P, J> {
     }
 
     /// The journal does, or not.
-    fn listens(&self) -> bool {
+    fn listens(&self) -> bool
+        ensures { result ≡ J.listening self.now.journal }
+    {
         self.journal.listens()
     }
 

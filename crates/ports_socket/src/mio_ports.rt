@@ -3,7 +3,7 @@
 //! Ports over sockets keep no runtime. The runtime opens sockets, and what is open reads, writes and waits by itself.
 //! Why an address can't be listened on is a `ListenError`, with the system's reason, and its `fault` is the number that
 //! is reported.
-ghost use Rattle.std.specs.Prelude.{◌≡◌, ◌<◌, ◌≤◌, List, [], ◌∷◌, ℕ, length, map, IfOk, None, Ok};
+ghost use Rattle.std.specs.Prelude.{◌≡◌, ◌<◌, ◌≤◌, List, [], ◌∷◌, ℕ, false, length, map, IfOk, None, Ok};
 ghost use Rattle.std.specs.List.{All, concat};
 ghost use Rattle.std.specs.Vec.{vec_capacity};
 ghost use Rattle.sl_io.specs.Counts.{CountsFailure};
@@ -113,6 +113,8 @@ impl Ports for MioPorts {
 
     ghost room = { λ s port. room_at port s.sockets.connections };
 
+    ghost listening = { λ _. false };
+
     /// What happened next. A new port has a number that no port had before: the count of those that joined, which no
     /// other call changes. Readable and Writable are told of open ports alone. At most sixteen ports join between two
     /// polls, and those alone that are admitted. All that are not admitted are told.
@@ -215,6 +217,11 @@ impl Ports for MioPorts {
 
     /// Nothing is noted here.
     fn tell(&mut self, _port: u64, _decision: Decision) {}
+
+    /// Nobody hears what is said: it is answered without a look at anything.
+    fn listens(&self) -> bool {
+        false
+    }
 }
 
 impl Doors for MioPorts {
