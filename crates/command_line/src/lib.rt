@@ -1,6 +1,7 @@
 //! The command line of `seedlinkd`: which job its words ask for, or why they ask for none.
 #![tactic(auto)]
 
+mod amounts;
 mod argument;
 mod commands;
 mod faults;

@@ -1,9 +1,8 @@
 //! What the user is told of words that are no job.
+use crate::amounts::{number_in, period_in, seconds_in};
 use crate::commands::command_named;
 use crate::job::ReadOptions;
-use crate::words::{
-    names_nothing, number_in, period_in, read_options, seconds_in, text_at, texts_at,
-};
+use crate::words::{names_nothing, read_options, text_at, texts_at};
 use clap::ArgMatches;
 use clap::error::ErrorKind;
 use std::alloc::{AllocError, Global};

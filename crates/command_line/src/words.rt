@@ -1,19 +1,19 @@
 //! The words of the command line.
-ghost use Rattle.std.specs.Prelude.{◌≡◌, ◌≤◌, ◌*◌, ◌||◌, [], Some, codes, false, IfOk, IfErr, map, option_map};
+ghost use Rattle.std.specs.Prelude.{◌≡◌, ◌||◌, [], Some, codes, false, IfOk, IfErr, map, option_map};
 ghost use Rattle.std.specs.Prelude.{string_bytes};
 ghost use Rattle.clap.specs.Words.{all_of, fault_of, first_of, found_of, kind_of, rows_of, subcommand_rows_of};
 ghost use Rattle.command_line.specs.Commands.{program_app};
 ghost use Rattle.command_line.specs.Jobs.{check_options_asked, check_options_in, flag_in};
 ghost use Rattle.command_line.specs.Jobs.{HelpIs, IsJob, IsTold, asked, asked_by, check_asked, feed_asked, is_shown};
-ghost use Rattle.command_line.specs.Jobs.{period_in, period_of, feed_options_asked, feed_options_in, goes_on};
-ghost use Rattle.command_line.specs.Jobs.{is_askable, is_spelled, job_of, number_in};
-ghost use Rattle.command_line.specs.Jobs.{is_empty_in, names_nothing, number_of};
+ghost use Rattle.command_line.specs.Jobs.{feed_options_asked, feed_options_in, goes_on};
+ghost use Rattle.command_line.specs.Jobs.{is_askable, is_spelled, job_of};
+ghost use Rattle.command_line.specs.Jobs.{is_empty_in, names_nothing};
 ghost use Rattle.command_line.specs.Jobs.{options_asked, options_in, read_asked, replay_asked};
-ghost use Rattle.command_line.specs.Jobs.{within_most, is_without_page, serve_asked, serve_options_asked};
-ghost use Rattle.command_line.specs.Jobs.{seconds_in, seconds_in_unit, seconds_of, time_of};
+ghost use Rattle.command_line.specs.Jobs.{is_without_page, serve_asked, serve_options_asked};
 ghost use Rattle.command_line.specs.Jobs.{status_asked, verbose_by, verbose_in, verbose_of, view_asked, wants_by};
 ghost use Rattle.command_line.specs.declared.job.WordsFault.TheVariants.{OutOfMemory};
 
+use crate::amounts::{number_in, period_in, seconds_in};
 use crate::commands::program;
 use crate::faults::{asks_for_faults, faults_text};
 use crate::job::{
@@ -23,8 +23,6 @@ use crate::mistakes::{mistake_text, text_of};
 use clap::ArgMatches;
 use clap::error::ErrorKind;
 use std::alloc::{AllocError, Global};
-use text_parts::decimal;
-use text_parts::period::Period;
 
 /// The text of an argument, where it has one.
 pub fn text_at<'a>(arguments: &ArgMatches<'a>, name: &str) -> Option<&'a str>
@@ -100,115 +98,6 @@ fn view_job<'a>(arguments: &ArgMatches<'a>) -> Option<Job<'a>>
         return None;
     }
     Some(Job::View(options))
-}
-
-/// The number from 1 to 1,000,000,000 that a text spells.
-fn number_of(text: &[u8]) -> Option<usize>
-    ensures { result ≡ number_of text.now }
-{
-    let number = decimal::number(text, 1, 10)?;
-    if number < 1 || number > 1_000_000_000 {
-        return None;
-    }
-    Some(number)
-}
-
-/// The number that an option has: the inner None where it is left out, and None where the text is no number of its
-/// range.
-pub fn number_in<'a>(arguments: &ArgMatches<'a>, name: &str) -> Option<Option<usize>>
-    ensures { result ≡ number_in name.now (rows_of (found_of arguments.now)) }
-{
-    let Some(text) = text_at(arguments, name) else {
-        return Some(None);
-    };
-    match number_of(text.as_bytes()) {
-        Some(number) => Some(Some(number)),
-        None => None,
-    }
-}
-
-/// How many seconds a unit has: `s`, `m` or `h`.
-fn seconds_in_unit(unit: u8) -> Option<usize>
-    ensures { result ≡ seconds_in_unit unit }
-{
-    match unit {
-        b's' => Some(1),
-        b'm' => Some(60),
-        b'h' => Some(3_600),
-        _ => None,
-    }
-}
-
-/// How many seconds so many units are, if they are not more than 1,000,000,000.
-fn scaled(number: usize, unit: usize) -> Option<usize>
-    requires number { number ≤ 1000000000 }
-    requires unit { unit ≤ 3600 }
-    ensures { result ≡ within_most (number * unit) }
-{
-    let seconds = number * unit;
-    if seconds > 1_000_000_000 {
-        return None;
-    }
-    Some(seconds)
-}
-
-/// The seconds that a text with a unit at its end spells: `90s`, `10m` or `2h`.
-fn time_of(text: &[u8]) -> Option<usize>
-    ensures { result ≡ time_of text.now }
-{
-    let (unit, digits) = text.split_last()?;
-    let unit = seconds_in_unit(*unit)?;
-    let number = number_of(digits)?;
-    scaled(number, unit)
-}
-
-/// The seconds that a text spells, with a unit or without: `90`, `90s`, `10m` or `2h`.
-fn seconds_of(text: &[u8]) -> Option<usize>
-    ensures { result ≡ seconds_of text.now }
-{
-    match number_of(text) {
-        Some(number) => Some(number),
-        None => time_of(text),
-    }
-}
-
-/// The seconds that an option has: the inner None where it is left out, and None where the text spells none.
-pub fn seconds_in<'a>(arguments: &ArgMatches<'a>, name: &str) -> Option<Option<usize>>
-    ensures { result ≡ seconds_in name.now (rows_of (found_of arguments.now)) }
-{
-    let Some(text) = text_at(arguments, name) else {
-        return Some(None);
-    };
-    match seconds_of(text.as_bytes()) {
-        Some(seconds) => Some(Some(seconds)),
-        None => None,
-    }
-}
-
-/// How often a text says: `N` is every so many turns, and with a unit, as `60s`, every so many seconds.
-fn period_of(text: &[u8]) -> Option<Period>
-    ensures { result ≡ period_of text.now }
-{
-    match number_of(text) {
-        Some(number) => Some(Period::Turns(number)),
-        None => match time_of(text) {
-            Some(seconds) => Some(Period::Seconds(seconds)),
-            None => None,
-        },
-    }
-}
-
-/// How often an option says: the inner None where it is left out, and None where the text does not say it.
-pub fn period_in<'a>(arguments: &ArgMatches<'a>, name: &str) -> Option<Option<Period>>
-    ensures { result ≡ period_in name.now (rows_of (found_of arguments.now)) }
-{
-    let Some(text) = text_at(arguments, name) else {
-        return Some(None);
-    };
-    match period_of(text.as_bytes()) {
-        Some(period) => Some(Some(period)),
-        None => None,
-    }
 }
 
 /// Whether they say something of a status page that is not asked for.
