@@ -73,13 +73,15 @@ MISTAKES = [
     ("a web server", "read HTTP GE_APE", 1, ["52 BadReply\n", "  sent: HTTP/1.1 400 Bad Request\n"]),
     ("a secure shell", "read SSH GE_APE", 1, ["52 BadReply\n", "  sent: SSH-2.0-OpenSSH_9.2p1\n"]),
     ("a server that sends no text", "read NOISE GE_APE", 1, ["52 BadReply\n", "  sent: \\x16\\x03\\x01\\x00\\xff~ \\x1b[2J\n"]),
-    ("a status that is asked of the port for clients", "status SERVER", 1, ["42 Read\n", "  cause: nothing came for ten seconds"]),
+    ("a status that is asked of the port for clients", "status SERVER", 1,
+     ["52 BadReply\n", "  cause: the answer is not that of a status port; perhaps this is another port of the server\n"]),
+    ("a status that is asked of the port for feeds", "status FEEDS", 1, ["42 Read\n", "  cause: nothing came for ten seconds", "or this is its port for feeds\n"]),
     ("patterns that match nothing", "read SERVER GE_APE:BHX --fetch", 0, ["seedlinkd: nothing came of what was asked for\n"]),
     ("patterns in small letters", "read SERVER GE_APE:bhz --fetch", 0, ["seedlinkd: nothing came of what was asked for\n"]),
     ("a window without records", "read SERVER GE_APE --begin 2099-01-01 --end 2099-01-02 --timeout 1", 0, ["seedlinkd: nothing came of what was asked for\n"]),
     ("nobody at the port", "read FREE GE_APE", 1, ["47 Connect\n", "  reason: Connection refused (os error 111)\n"]),
 ]
-SLOW = ["a status that is asked of the port for clients"]
+SLOW = ["a status that is asked of the port for feeds"]
 # Faults, of each kind of job, and the line that they are without -v and not at a terminal.
 ONE_LINE = [
     ("feed: no server", "feed FREE two.mseed", "47 Connect"),

@@ -3,6 +3,7 @@
 import contextlib
 import os
 import pty
+import socket
 import subprocess
 
 import kit
@@ -17,6 +18,10 @@ TERMINALS = [
     ("a dumb terminal", {"TERM": "dumb"}, False),
     ("no name of a terminal", {"TERM": ""}, False),
 ]
+# What a server answers that is asked for its tables, of which one has a silent station.
+TABLES = b"a is silent\nv\nstations ok 1, waiting 0, silent 1\n\nNET\tSTATION\tSTATE\tAGE s\nGE\tAPE\tsilent\t1\nXX\tAPE\tok\t1\n"
+TABLES += b"\nNUMBER\tHERE s\n17\t1\n"
+SHOWN = "a is silent\nv\nstations ok 1, waiting 0, silent 1\n\nNET  STATION  STATE   AGE s\nGE   APE      %s  1\nXX   APE      ok      1\n\nNUMBER  HERE s\n17      1\n"
 
 
 class AtTerminal:
@@ -66,6 +71,13 @@ class AtTerminal:
             self.output.close()
 
 
+def answered(connection):
+    with contextlib.suppress(OSError):
+        connection.recv(4096)
+        connection.sendall(b"HTTP/1.1 503 Silent\r\nContent-Length: %d\r\n\r\n" % len(TABLES) + TABLES)
+        connection.shutdown(socket.SHUT_WR)
+
+
 @kit.unreleased
 class Terminal(kit.Test):
     def at_terminal(self, *words, **how):
@@ -89,6 +101,16 @@ class Terminal(kit.Test):
         """Not in a pipe or a file, whatever TERM says."""
         done = kit.ran(kit.PROGRAM, "-v", "check", "none", env={**os.environ, "TERM": "xterm"})
         self.assertNotIn(b"\x1b", done.stderr)
+        with kit.talking(answered) as address:
+            done = kit.ran(kit.PROGRAM, "status", address, env={**os.environ, "TERM": "xterm"})
+        self.assertEqual((done.returncode, done.stdout.decode()), (3, SHOWN % "silent"))
+
+    @kit.rows(TERMINALS)
+    def test_a_silent_station(self, variables, is_red):
+        """It is red if the terminal has colours."""
+        with kit.talking(answered) as address:
+            status, text = self.ends("status", address, variables=variables, is_output=True)
+        self.assertEqual((status, text), (3, SHOWN % ("\x1b[31msilent\x1b[0m" if is_red else "silent")))
 
     def test_how_far_a_feed_is(self):
         server = self.serve()

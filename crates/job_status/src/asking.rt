@@ -103,7 +103,16 @@ fn whole(bytes: Vec<u8>) -> Result<Vec<u8>, Failure> {
     Ok(bytes)
 }
 
-/// Takes what is answered, to the end of the connection, within ten seconds, and 4 MiB at most.
+/// How each answer of a status port begins.
+const BEGINNING: &[u8] = b"HTTP/";
+
+/// Whether bytes begin otherwise than an answer of a status port.
+fn is_of_another_port(bytes: &[u8]) -> bool {
+    bytes.len() >= BEGINNING.len() && !bytes.starts_with(BEGINNING)
+}
+
+/// Takes what is answered, to the end of the connection, within ten seconds, and 4 MiB at most. What is no answer of a
+/// status port is not read on.
 fn take_answer(rt: &HostRuntime, stream: &TcpStream) -> Result<Vec<u8>, Failure> {
     let begin = milliseconds(rt);
     let mut bytes = Vec::new(rt.alloc());
@@ -112,7 +121,8 @@ fn take_answer(rt: &HostRuntime, stream: &TcpStream) -> Result<Vec<u8>, Failure>
         if passed >= PATIENCE || bytes.len() > MOST {
             return Err(unanswered(bytes.len()));
         }
-        if read_within(stream, &mut bytes, PATIENCE - passed)? == 0 {
+        let count = read_within(stream, &mut bytes, PATIENCE - passed)?;
+        if count == 0 || is_of_another_port(&bytes) {
             return whole(bytes);
         }
     }

@@ -5,9 +5,11 @@ ghost use Rattle.job_status.specs.Answers.{Answers};
 use crate::answer::answer_in;
 use crate::asking::{Stations, ask};
 use crate::columns::laid_out;
+use crate::reds::with_red;
 use incidents::{Failure, Incident};
-use job_base::{ServerAddress, connection, server_of};
+use job_base::{ServerAddress, connection, has_output_colours, server_of};
 use sl_io::{Outer, StreamFault, write_all};
+use std::alloc::AllocError;
 use std::io;
 use std::net::TcpStream;
 
@@ -20,6 +22,16 @@ fn write_text(rt: &HostRuntime, text: &[u8]) -> Result<(), Failure> {
     }
 }
 
+/// Tables in columns; at a terminal with colours the word `silent` of a station is red.
+fn shown_tables(rt: &HostRuntime, body: &[u8]) -> Result<Vec<u8>, AllocError> {
+    let text = laid_out(rt.alloc(), body)?;
+    if has_output_colours(rt) {
+        with_red(rt.alloc(), text.as_slice())
+    } else {
+        Ok(text)
+    }
+}
+
 /// Writes what an answer tells. Whether a station is silent.
 fn tell_answer(rt: &HostRuntime, bytes: &[u8]) -> Result<bool, Failure>
     ensures { IfOk result (λ is_silent. (body : List ℕ) × Answers bytes.now body is_silent) }
@@ -28,7 +40,7 @@ fn tell_answer(rt: &HostRuntime, bytes: &[u8]) -> Result<bool, Failure>
         Ok(answer) => answer,
         Err(fault) => return Err(fault.failure()),
     };
-    let Ok(text) = laid_out(rt.alloc(), answer.body) else {
+    let Ok(text) = shown_tables(rt, answer.body) else {
         return Err(Failure::out_of_memory());
     };
     write_text(rt, text.as_slice())?;
