@@ -24,6 +24,7 @@ NO_WANT = "  cause: this can't be asked for in SeedLink\n  word: %s\n  part: %s\
 STATION = "1 to 5 of A to Z and 0 to 9, after _; each WANT is a word, or a line, of its own\n"
 NUMBER = "1 to 6 hexadecimal digits, after @; --fetch with --begin needs them, as @0, --end takes none\n"
 TIME = "  allowed: a time in UTC, as 2024-02-29, 2024-02-29T00:00:00 (or .0000, four digits) or 2024,2,29,0,0,0\n"
+STATE = "53 State\n  cause: the file with the state is not in lines of a network, a station, a number and an end\n  file: %s\n  line: %d\n"
 PLAIN = "  file: %s\n  reason: it has to be a plain file\n"
 SERVE = "serve c.toml --listen HERE:0 --feed HERE:0 --turns 1 "
 # What the user did, the words, the status, and what is said with -v, in this order. SERVER, FEEDS and STATUS are the ports of a server
@@ -42,6 +43,8 @@ MISTAKES = [
     ("feeds from everybody", "serve c.toml --listen HERE:0 --feed 0.0.0.0:0 --turns 1", 0, ["without --feed-from everybody may feed at 0.0.0.0:0\n"]),
     ("a network of which there is no such mask", "view c.toml 10.0.0.0/33", 1,
      ["  cause: a word is no address and no network", "  allowed: an address as 10.0.0.7, a network as 10.0.0.0/8 (0 to 32), or the file of "]),
+    ("a network without a mask", "view c.toml 10.0.0.0/", 1, ["  allowed: an address as 10.0.0.7, a network as 10.0.0.0/8 (0 to 32), or the file of "]),
+    ("a configuration that is a file of records", "view two.mseed", 1, ["20 Toml\n", "  found: bytes that are not UTF-8\n"]),
     ("a station with a point", "view c.toml --station GE.APE", 1, ["32 UnknownStation\n", "  allowed: a network and a code of the configuration, in capitals, as GE_APE\n"]),
     ("a station in small letters", "view c.toml --station ge_ape", 1, ["  allowed: a network and a code of the configuration, in capitals, as GE_APE\n"]),
     # wants and times
@@ -53,12 +56,27 @@ MISTAKES = [
     ("256 wants", ["read", "FREE", "--fetch", "--retry", "1"] + ["GE_APE"] * 256, 1, ["  cause: there are more WANTs than one reader can ask for\n  allowed: 1 to 255 WANTs\n"]),
     ("a fraction of one digit", "read FREE GE_APE@0 --fetch --begin 2024-02-29T00:00:00.5", 1, ["60 Shape\n", TIME]),
     ("now", "read FREE GE_APE@0 --fetch --begin now", 1, ["60 Shape\n", TIME]),
+    ("two wants in a line", "read FREE --wants two.wants", 1, ["22 Limit\n", "  file: two.wants\n  line: 1\n  part: station\n"]),
+    ("a want with a tab", "read FREE --wants tab.wants", 1, ["22 Limit\n", "  file: tab.wants\n  line: 1\n  part: station\n"]),
+    ("wants in the form of slinktool", "read FREE --wants blanks.wants", 1, ["22 Limit\n", "  line: 1\n  part: network\n  allowed: 1 to 2 of A to Z and 0 to 9, before _\n"]),
+    ("a file of wants that is empty", "read FREE --wants empty", 1, ["22 Limit\n", "  cause: there is no WANT\n"]),
+    ("a file of wants that is not there", "read FREE --wants none", 1, ["44 File\n", "  file: none\n  reason: No such file or directory (os error 2)\n"]),
+    ("a time without signs between", "read FREE GE_APE@0 --fetch --begin 20240229T000000Z", 1, ["60 Shape\n", TIME]),
+    ("a time in small letters", "read FREE GE_APE@0 --fetch --begin 2024-02-29t00:00:04z", 1, ["60 Shape\n", TIME]),
     ("a comment after a want of a file", "read FREE --wants behind.wants", 1, ["22 Limit\n", "  file: behind.wants\n  line: 2\n  part: station\n"]),
     # files
     ("a state that is a folder", "read FREE GE_APE --state folder", 1, ["53 State\n", PLAIN % "folder"]),
     ("a configuration that is read again and is a device", "serve /dev/null --listen HERE:0 --feed HERE:0 --reread 5s", 1, ["44 File\n", PLAIN % "/dev/null"]),
     ("a state with a line in another form", "read FREE GE_APE --state other.state", 1, ["  file: other.state\n  line: 1\n"]),
+    ("a state with a number that is none", "read FREE GE_APE --state number.state", 1, [STATE % ("number.state", 1)]),
+    ("a state with CR LF", "read FREE GE_APE --state ends.state", 1, [STATE % ("ends.state", 1)]),
+    ("a state with an empty line", "read FREE GE_APE --state line.state", 1, [STATE % ("line.state", 2)]),
+    ("a state in a folder that is not there", "read FREE GE_APE --state nowhere/state", 1, ["53 State\n", "  file: nowhere/state\n  reason: No such file or directory (os error 2)\n"]),
+    ("an archive that is a file", "read SERVER GE_APE --fetch --archive one.mseed", 1, ["44 File\n", "  file: one.mseed\n  reason: Not a directory (os error 20)\n"]),
+    ("a file of numbers that is the configuration", SERVE + "--numbers c.toml", 1, ["49 Numbers\n", "  cause: the file of numbers is not in TOML with "]),
     ("a state without its last line end", "read FREE GE_APE --state cut.state", 1, ["53 State\n", "  file: cut.state\n  line: 1\n"]),
+    ("compressed files to check", "check gzs", 0, ["seedlinkd: nothing to check (1 passed over) in gzs\n"]),
+    ("standard input twice", "check - -", 0, ["seedlinkd: nothing to check in -\nseedlinkd: nothing to check in -\n"]),
     ("an empty file to check", "check empty", 0, ["seedlinkd: nothing to check in empty\n"]),
     ("an empty folder to check", "check folder", 0, ["seedlinkd: nothing to check in folder\n"]),
     # feeds
@@ -68,6 +86,9 @@ MISTAKES = [
      ["seedlinkd: passed over ", " bytes in no record (a file compressed by gzip), from byte 0 of two.gz on\n", "sent 0 records\n"]),
     ("a feed at the port for clients", "feed SERVER many.mseed", 1, ["52 BadReply\n", "perhaps this is its port for clients\n"]),
     ("one record", "feed FEEDS one.mseed", 0, ["sent 1 record\n"]),
+    ("a feed at the status port", "feed HTTP many.mseed", 1, ["52 BadReply\n", "  cause: the server answered, which a feed port never does"]),
+    ("the words in another order", "feed two.mseed FEEDS", 1, [ADDRESS % "two.mseed"]),
+    ("a configuration that is fed", "feed FEEDS c.toml", 1, ["41 Partial\n", "  file: c.toml\n"]),
     ("one byte too many", "feed FEEDS torn.mseed --skip", 0, ["passed over 1 byte in no record, from byte 512 of torn.mseed on\n"]),
     # servers
     ("a web server", "read HTTP GE_APE", 1, ["52 BadReply\n", "  sent: HTTP/1.1 400 Bad Request\n"]),
@@ -144,6 +165,13 @@ def make_files():
     kit.write("rest.mseed", two[:700])
     kit.write("long.mseed", long_record())
     kit.write("behind.wants", "GE_APE\nXX_APE # island\n")
+    kit.write("two.wants", "GE_APE XX_APE\n")
+    kit.write("tab.wants", "GE_APE\tBHZ\n")
+    kit.write("blanks.wants", "GE APE BHZ\n")
+    kit.write("number.state", "GE APE 00000G 17091648020900\n")
+    kit.write("ends.state", "GE APE 000010 17091648020900\r\n")
+    kit.write("line.state", "GE APE 000010 17091648020900\n\n")
+    kit.write("gzs/one.gz", gzip.compress(two))
     kit.write("other.state", "GE APE 10 2024,02,29,00,00,00\n")
     kit.write("cut.state", "GE APE 000010 17091648020900")
     os.makedirs("folder")
