@@ -1,7 +1,7 @@
 -- What the loop says that it decides.
 -- The loop is this project's own. Left out: whether anybody hears it.
-use Rattle.std.specs.Prelude.{◌≡◌, ◌≢◌, ℕ, ◌<◌, ◌≤◌, Bool, true, List, [], ◌∷◌, length, slice_index, Option, Result, Ok}
-use Rattle.std.specs.Prelude.{Err, flat_map, if◌then◌else◌}
+use Rattle.std.specs.Prelude.{◌≡◌, ◌≢◌, ℕ, ◌<◌, ◌≤◌, Bool, true, List, [], ◌∷◌, length, slice_index, Option, None, Some}
+use Rattle.std.specs.Prelude.{Result, Ok, Err, flat_map, nat_lt, if◌then◌else◌}
 use Rattle.protocol.specs.Catalog.{Config}
 use Rattle.protocol.specs.World.{World}
 use Rattle.protocol.specs.Record.{record_reason}
@@ -12,11 +12,12 @@ use Rattle.server_core.specs.declared.arrivals.ArriveFault.TheVariants.{Exhauste
 use Rattle.ports.specs.Decisions.{Decides}
 use Rattle.ports.specs.declared.decisions.AwayReason.TheVariants.{Feeds, Memory, MaxConnections}
 use Rattle.ports.specs.declared.decisions.Decision.{Decision}
-use Rattle.ports.specs.declared.decisions.Decision.TheVariants.{Cut, LetIn, Refused, TurnedAway}
+use Rattle.ports.specs.declared.decisions.Decision.TheVariants.{Cut, LetIn, Lost, Refused, TurnedAway}
 use Rattle.ports.specs.declared.decisions.Party.TheVariants.{Client, Feed}
 use Rattle.ports.specs.declared.decisions.RecordCodes.{RecordCodes}
 use Rattle.ports.specs.declared.decisions.RecordRefusal.{RecordRefusal}
 use Rattle.ports.specs.declared.decisions.RecordRefusal.TheVariants.{Other, Unknown}
+use Rattle.session_state.specs.Sessions.{SessionValue}
 use Rattle.server_core.specs.Reloads.{is_cut_at}
 use Rattle.server_core.specs.ServerValues.{ServerValue}
 use Rattle.event_loop.specs.declared.seat.Role.{Role}
@@ -50,6 +51,13 @@ codes_in r = record {
   network = slice_index r 18 ∷ slice_index r 19 ∷ [];
   station = slice_index r 8 ∷ slice_index r 9 ∷ slice_index r 10 ∷ slice_index r 11 ∷ slice_index r 12 ∷ [];
 }
+
+-- ---- clients that lost records
+
+-- what is said of a port whose client ends, by its session: how many records it lost, if any
+abbrev pub lost_said : (port : ℕ) → Option SessionValue → List (ℕ × Decision)
+lost_said port None = []
+lost_said port (Some s) = if nat_lt 0 s.lost then (port, Lost s.lost) ∷ [] else []
 
 -- ---- clients that a new configuration cuts
 

@@ -5,7 +5,7 @@
 //!
 //! A take of a run is what the loop does with a client: an offer, a copy of what waits, and the taking of what was
 //! copied. There is no call of its own for it.
-ghost use Rattle.std.specs.Prelude.{◌≡◌, ◌<◌, ◌≤◌, true, [], ◌∷◌, length, Some, option_map};
+ghost use Rattle.std.specs.Prelude.{◌≡◌, ◌<◌, ◌≤◌, true, [], ◌∷◌, ◌++◌, length, None, Some, option_map, slice_index_or};
 ghost use Rattle.protocol.specs.Client.{offered};
 ghost use Rattle.protocol.specs.Catalog.{Config};
 ghost use Rattle.protocol.specs.World.{World, step};
@@ -19,12 +19,13 @@ ghost use Rattle.server_core.specs.Marks.{LeavesOthers};
 ghost use Rattle.server_core.specs.Refusals.{offer_of};
 ghost use Rattle.server_core.specs.ServerValues.{MayTake, StandsAt};
 ghost use Rattle.server_core.specs.declared.client.Offer.TheVariants.{Idle};
+ghost use Rattle.event_loop.specs.Decided.{lost_said};
 ghost use Rattle.event_loop.specs.Deeds.{Tally};
 ghost use Rattle.event_loop.specs.Passes.{ClientReads, ClientWrites, room_in};
 ghost use Rattle.event_loop.specs.Going.{Once, Whole, if_open};
 ghost use Rattle.event_loop.specs.Offering.{Hands, HandsPieces, IfTook, IfWrites, WritesOn};
 
-use crate::deciding::end;
+use crate::deciding::end_client;
 use crate::seat::{Role, Seat};
 use crate::telling::{go_on, receive, took};
 use ports::{Ending, Got, PortFault, Ports, Put};
@@ -42,15 +43,16 @@ pub enum Onward {
     Over,
 }
 
-/// A client's port is shut, it is said why, and the client is closed.
+/// A client's port is shut, it is said what it lost and why it ends, and the client is closed.
 fn shut<P: Ports>(server: &mut Server, ports: &mut P, client: &Client, port: u64, ending: Ending)
     ensures call { Tells (P.calls ports.old) (P.calls ports.new) (Shut port ∷ []) }
-    ensures decides { Decides (P.decided ports.old) (P.decided ports.new) ((port, Ends ending) ∷ []) }
+    ensures decides { Decides (P.decided ports.old) (P.decided ports.new)
+        (lost_said port (slice_index_or server.old.sessions client.now None) ++ (port, Ends ending) ∷ []) }
     ensures stands { (config : Config) (w : World) → StandsAt server.old config w
         → StandsAt server.new config (step config w (Close client.now)) }
     ensures others { LeavesOthers client.now server.old server.new }
 {
-    end(ports, port, ending);
+    end_client(server, ports, port, client, ending);
     let _ = server.close(client);
 }
 

@@ -41,6 +41,8 @@ pub struct JournalCounts {
     pub away: Vec<NamedCount<'static>>,
     /// How many bytes clients were sent, those who left too. It stays at 2^64 - 1.
     pub sent: u64,
+    /// How many records clients lost who left since. It stays at 2^64 - 1.
+    pub lost: u64,
     pub turns: Turns,
     /// When the turn under way began, in microseconds of the system's clock.
     begun: Option<u64>,
@@ -103,6 +105,7 @@ impl JournalCounts {
             refusals: refusals_uncounted(alloc)?,
             away: away_uncounted(alloc)?,
             sent: 0,
+            lost: 0,
             turns: Turns::new(),
             begun: None,
         })
@@ -113,6 +116,7 @@ impl JournalCounts {
         match visit {
             Visit::Away(away) => count(&mut self.away, name_of(away.reason)),
             Visit::Refused { refusal, .. } => count(&mut self.refusals, name_of_refusal(refusal)),
+            Visit::Close { lost, .. } => self.lost = self.lost.saturating_add(*lost),
             _ => {}
         }
     }

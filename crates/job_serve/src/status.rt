@@ -287,7 +287,7 @@ impl<'l> StatusDesk<'l> {
             turns: counts.turns.times(),
         };
         let is_by_age = matches!(asked.request.target, Target::PageByAge);
-        self.watch.gather(now, server);
+        self.watch.gather(now, server, counts.lost);
         let listed = Listed {
             users: self.users.as_slice(),
             limits: self.limits.as_slice(),

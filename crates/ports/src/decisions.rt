@@ -98,6 +98,9 @@ pub enum Decision {
     Reads(AskedCodes, Mode),
     /// A transfer of its client begins, with the stations of which that was said.
     Begins,
+    /// Its client, whose port is shut next, lost so many records, at least one: they went out of their rings before it
+    /// came to them.
+    Lost(u64),
     /// Its client is cut: a new configuration shows its address something else than the client sees. The port is shut
     /// once it took what waits.
     Cut,

@@ -6,8 +6,8 @@ use Rattle.ports.specs.declared.answers.Got.{Got}
 use Rattle.ports.specs.declared.answers.Got.TheVariants.{Bytes}
 use Rattle.ports.specs.declared.answers.PortFault.{PortFault}
 use Rattle.ports.specs.declared.decisions.Decision.{Decision}
-use Rattle.ports.specs.declared.decisions.Decision.TheVariants.{Begins, Cut, LetIn, NoStation, Reads, TurnedAway, Ends}
-use Rattle.ports.specs.declared.decisions.Decision.TheVariants.{Refused}
+use Rattle.ports.specs.declared.decisions.Decision.TheVariants.{Begins, Cut, LetIn, Lost, NoStation, Reads, TurnedAway}
+use Rattle.ports.specs.declared.decisions.Decision.TheVariants.{Ends, Refused}
 use Rattle.ports.specs.declared.decisions.Party.{Party}
 use Rattle.ports.specs.declared.decisions.Party.TheVariants.{Client, Feed}
 use Rattle.ports.specs.declared.present.PresentClient.{PresentClient}
@@ -15,7 +15,8 @@ use Rattle.ports_logged.specs.declared.traffic.Traffic.{Traffic}
 use Rattle.ports_logged.specs.declared.visit.Visit.{Visit}
 use Rattle.ports_logged.specs.declared.visit.Visit.TheVariants as visit
 use Rattle.ports_logged.specs.declared.visitor.Visitor.{Visitor}
-use Rattle.ports_logged.specs.Visitors.{VisitorsValue, cutting, fresh, is_at, is_uncut, records_given, refusing}
+use Rattle.ports_logged.specs.Visitors.{VisitorsValue, cutting, fresh, is_at, is_uncut, losing, records_given}
+use Rattle.ports_logged.specs.Visitors.{refusing}
 use Rattle.ports_logged.specs.Visitors.{with_traffic, with_visitor, without}
 
 -- ---- what goes over a port
@@ -40,12 +41,13 @@ decided_visitors port (Refused refusal) now v = counted_at port refusing v
 decided_visitors port (NoStation codes) now v = v
 decided_visitors port (Reads codes mode) now v = v
 decided_visitors port Begins now v = v
+decided_visitors port (Lost records) now v = counted_at port (losing records) v
 decided_visitors port Cut now v = counted_at port cutting v
 
--- what is noted of whoever was at a port, whose connection came from an address: of a client the bytes that it took and
--- whether it was cut, of a feed the whole records that it gave
+-- what is noted of whoever was at a port, whose connection came from an address: of a client the bytes that it took,
+-- the records that it lost and whether it was cut, of a feed the whole records that it gave
 abbrev pub over_by : Party → Ipv4Addr → Visitor → Visit
-over_by Client address v = visit.Close v.port address v.traffic.taken (nat_lt 0 v.traffic.cuts)
+over_by Client address v = visit.Close v.port address v.traffic.taken v.traffic.lost (nat_lt 0 v.traffic.cuts)
 over_by Feed address v = visit.FeedOver v.port address (v.traffic.given / 512) v.traffic.refused
 
 abbrev pub over_of : Ipv4Addr → Visitor → Visit
@@ -69,6 +71,7 @@ decided_notes port (Refused refusal) address v =
 decided_notes port (NoStation codes) address v = visit.NoStation port address codes ∷ []
 decided_notes port (Reads codes mode) address v = visit.Reads port address codes mode ∷ []
 decided_notes port Begins address v = visit.Begins port address ∷ []
+decided_notes port (Lost records) address v = []
 decided_notes port Cut address v =
     if is_uncut (find (is_at port) v.present) then visit.Cut port address ∷ [] else []
 

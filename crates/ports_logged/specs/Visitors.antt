@@ -20,17 +20,21 @@ counted n more = min (n + more) (2 ^ 64 - 1)
 
 -- so many bytes that a port gave, so many that it took, and a record that it gave and that was refused
 abbrev pub giving : ℕ → Traffic
-giving n = record { given = n; taken = 0; refused = 0; cuts = 0 }
+giving n = record { given = n; taken = 0; refused = 0; cuts = 0; lost = 0 }
 
 abbrev pub taking : ℕ → Traffic
-taking n = record { given = 0; taken = n; refused = 0; cuts = 0 }
+taking n = record { given = 0; taken = n; refused = 0; cuts = 0; lost = 0 }
 
 abbrev pub refusing : Traffic
-refusing = record { given = 0; taken = 0; refused = 1; cuts = 0 }
+refusing = record { given = 0; taken = 0; refused = 1; cuts = 0; lost = 0 }
 
 -- a new configuration that cut a port's client
 abbrev pub cutting : Traffic
-cutting = record { given = 0; taken = 0; refused = 0; cuts = 1 }
+cutting = record { given = 0; taken = 0; refused = 0; cuts = 1; lost = 0 }
+
+-- so many records that a port's client lost
+abbrev pub losing : ℕ → Traffic
+losing n = record { given = 0; taken = 0; refused = 0; cuts = 0; lost = n }
 
 -- so much, and so much more
 abbrev pub joined_traffic : Traffic → Traffic → Traffic
@@ -39,6 +43,7 @@ joined_traffic t more = record {
   taken = counted t.taken more.taken;
   refused = counted t.refused more.refused;
   cuts = counted t.cuts more.cuts;
+  lost = counted t.lost more.lost;
 }
 
 -- who has just come, at a time

@@ -138,6 +138,7 @@ fn decide<J: Journal>(
             mode,
         }),
         Decision::Begins => journal.note(Visit::Begins { port, address }),
+        Decision::Lost(records) => visitors.count(port, Traffic::records_lost(records)),
         Decision::Cut => cut(visitors, journal, port, address),
     }
 }

@@ -1,6 +1,6 @@
 //! What goes over a port.
 ghost use Rattle.std.specs.Prelude.{◌≡◌};
-ghost use Rattle.ports_logged.specs.Visitors.{cutting, giving, joined_traffic, refusing, taking};
+ghost use Rattle.ports_logged.specs.Visitors.{cutting, giving, joined_traffic, losing, refusing, taking};
 
 /// What went over a port, and how often its client was cut. Each count stays at 2^64 - 1.
 #[derive(Clone, Copy, Drop)]
@@ -13,6 +13,8 @@ pub struct Traffic {
     pub refused: u64,
     /// How many new configurations cut its client.
     pub cuts: u64,
+    /// How many records its client lost: they went out of their rings before it came to them.
+    pub lost: u64,
 }
 
 impl Traffic {
@@ -25,6 +27,7 @@ impl Traffic {
             taken: 0,
             refused: 0,
             cuts: 0,
+            lost: 0,
         }
     }
 
@@ -37,6 +40,7 @@ impl Traffic {
             taken: count as u64,
             refused: 0,
             cuts: 0,
+            lost: 0,
         }
     }
 
@@ -49,6 +53,7 @@ impl Traffic {
             taken: 0,
             refused: 1,
             cuts: 0,
+            lost: 0,
         }
     }
 
@@ -61,6 +66,20 @@ impl Traffic {
             taken: 0,
             refused: 0,
             cuts: 1,
+            lost: 0,
+        }
+    }
+
+    /// So many records that a port's client lost.
+    pub fn records_lost(count: u64) -> Traffic
+        ensures { result ≡ losing count }
+    {
+        Traffic {
+            given: 0,
+            taken: 0,
+            refused: 0,
+            cuts: 0,
+            lost: count,
         }
     }
 
@@ -73,6 +92,7 @@ impl Traffic {
             taken: self.taken.saturating_add(more.taken),
             refused: self.refused.saturating_add(more.refused),
             cuts: self.cuts.saturating_add(more.cuts),
+            lost: self.lost.saturating_add(more.lost),
         }
     }
 }

@@ -56,11 +56,13 @@ pub enum Visit {
         port: u64,
         address: Ipv4Addr,
     },
-    /// A client's port was shut, after it took so many bytes, at most 2^64 - 1; also whether the client was cut.
+    /// A client's port was shut, after it took so many bytes, at most 2^64 - 1; also how many records the client lost,
+    /// since they went out of their rings before it came to them, and whether it was cut.
     Close {
         port: u64,
         address: Ipv4Addr,
         bytes: u64,
+        lost: u64,
         is_cut: bool,
     },
     /// A feed was let in.
@@ -160,10 +162,20 @@ fn put_refusal<W: Write>(
     }
 }
 
+/// Writes how many records a client lost, if any, and that it was cut, if it was.
+fn put_end<W: Write>(f: &mut Formatter<W>, lost: u64, is_cut: bool) -> fmt::Result {
+    if lost > 0 {
+        write!(f, " lost {lost}")?;
+    }
+    f.write_str(if is_cut { " cut" } else { "" })
+}
+
 impl Display for Visit {
     /// As `open 17 10.0.0.7`, `away 10.0.0.7 max_connections`, `refused 17 10.0.0.7 STATION GE WLF`,
-    /// `reads 17 10.0.0.7 GE APE DATA`, `cut 17 10.0.0.7`, `close 17 10.0.0.7 bytes 52000 cut`, `feed 3 10.0.0.2`, `feed 3 refused 6 Length, first at record 17`, `feed 3 refused GE WLF, an unknown station,
-    /// first at record 2` and `feed 3 over 10.0.0.2 records 120 refused 2`.
+    /// `reads 17 10.0.0.7 GE APE DATA`, `cut 17 10.0.0.7`, `close 17 10.0.0.7 bytes 52000`,
+    /// `close 17 10.0.0.7 bytes 52000 lost 12 cut` for one that lost records and was cut, `feed 3 10.0.0.2`,
+    /// `feed 3 refused 6 Length, first at record 17`, `feed 3 refused GE WLF, an unknown station, first at record 2` and
+    /// `feed 3 over 10.0.0.2 records 120 refused 2`.
     fn fmt<W: Write>(&self, f: &mut Formatter<W>) -> fmt::Result {
         match self {
             Visit::Open { port, address } => write!(f, "open {port} {address}"),
@@ -195,10 +207,11 @@ impl Display for Visit {
                 port,
                 address,
                 bytes,
+                lost,
                 is_cut,
             } => {
-                let end = if *is_cut { " cut" } else { "" };
-                write!(f, "close {port} {address} bytes {bytes}{end}")
+                write!(f, "close {port} {address} bytes {bytes}")?;
+                put_end(f, *lost, *is_cut)
             }
             Visit::Feed { port, address } => write!(f, "feed {port} {address}"),
             Visit::Refused {

@@ -32,8 +32,8 @@ impl Visitor {
         }
     }
 
-    /// What is noted at the end, of a connection from an address: of a client the bytes that it took, of a feed the
-    /// whole records that it gave.
+    /// What is noted at the end, of a connection from an address: of a client the bytes that it took and
+    /// the records that it lost, of a feed the whole records that it gave.
     pub fn end(self, address: Ipv4Addr) -> Visit
         ensures { result ≡ over_of address self }
     {
@@ -48,6 +48,7 @@ impl Visitor {
                 port,
                 address,
                 bytes: traffic.taken,
+                lost: traffic.lost,
                 is_cut: traffic.cuts > 0,
             },
             Party::Feed => Visit::FeedOver {

@@ -12,6 +12,7 @@ use Rattle.session_state.specs.declared.session.State.TheVariants.{Transfer}
 use Rattle.station_ring.specs.HeldRecords.{RingsValue}
 use Rattle.station_ring.specs.Rings.{RingValue}
 use Rattle.status_page.specs.declared.value.ClientStatus.{ClientStatus}
+use Rattle.server_watch.specs.declared.watch.Followed.{Followed}
 use Rattle.status_page.specs.declared.value.StationStatus.{StationStatus}
 use Rattle.server_watch.specs.Minutes.{counted, reached}
 use Rattle.server_watch.specs.declared.arrivals.Arrivals.{Arrivals}
@@ -97,16 +98,26 @@ abbrev pub ahead_by : State → RingsValue → List Entry → ℕ
 ahead_by (Transfer from) rings es = behind_from 0 rings es
 ahead_by _ rings es = 0
 
--- what is told of a client, by its port and by who is there: nothing counts for one that is not in the table
-abbrev pub with_visitor_of : (now port named behind : ℕ) → Option PresentClient → ClientStatus
-with_visitor_of now port named behind (Some v) =
+-- what is told of a client, by its port, by what its session tells and by who is there: nothing counts for one that is
+-- not in the table
+abbrev pub client_status_of : (now port : ℕ) → Followed → Option PresentClient → ClientStatus
+client_status_of now port f (Some v) =
     record {
       number = port;
       address = v.address.octets;
       seconds = (now - v.since) / 1000;
-      named = named;
+      named = f.named;
       bytes = v.bytes;
-      behind = behind;
+      behind = f.behind;
+      lost = f.lost;
     }
-with_visitor_of now port named behind None =
-    record { number = port; address = 0 ∷ 0 ∷ 0 ∷ 0 ∷ []; seconds = 0; named = named; bytes = 0; behind = behind }
+client_status_of now port f None =
+    record {
+      number = port;
+      address = 0 ∷ 0 ∷ 0 ∷ 0 ∷ [];
+      seconds = 0;
+      named = f.named;
+      bytes = 0;
+      behind = f.behind;
+      lost = f.lost;
+    }

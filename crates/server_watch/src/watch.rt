@@ -9,7 +9,7 @@ ghost use Rattle.session_state.specs.Choices.{chosen_of};
 ghost use Rattle.session_state.specs.NamedValues.{entry_of};
 ghost use Rattle.status_page.specs.declared.value.StationStatus.{StationStatus as StationValue};
 ghost use Rattle.server_watch.specs.Watching.{Knows, TellOf, TellsOf, ahead_by, all_noted, limit_at, listed_at};
-ghost use Rattle.server_watch.specs.Watching.{reaching, with_visitor_of};
+ghost use Rattle.server_watch.specs.Watching.{client_status_of, reaching};
 
 use crate::arrivals::{Arrivals, note_all, reach_all};
 use crate::behind::behind_of;
@@ -57,6 +57,8 @@ pub struct Listed<'a> {
 struct Crowd {
     followers: Vec<u64>,
     clients: Vec<ClientStatus>,
+    /// How many records all clients lost, those who left too.
+    lost: u64,
 }
 
 impl Crowd {
@@ -65,11 +67,16 @@ impl Crowd {
         let mut followers = Vec::with_capacity(alloc, stations)?;
         followers.resize(stations, 0)?;
         let clients = Vec::with_capacity(alloc, CLIENTS.min(clients))?;
-        Ok(Crowd { followers, clients })
+        Ok(Crowd {
+            followers,
+            clients,
+            lost: 0,
+        })
     }
 
-    /// Nobody follows a station.
-    fn forget(&mut self) {
+    /// Nobody follows a station. Clients who left lost so many records.
+    fn forget(&mut self, lost: u64) {
+        self.lost = lost;
         self.clients.clear();
         for followers in self.followers.iter_mut() {
             *followers = 0;
@@ -94,16 +101,18 @@ impl Crowd {
             return;
         };
         self.follow(session);
+        self.lost = self.lost.saturating_add(session.lost());
         if self.clients.len() < CLIENTS {
             let visitor = server.ports().present(seat.port);
-            let status = client_status(server.rings(), session, seat.port, now, visitor);
+            let followed = Followed::by(server.rings(), session);
+            let status = client_status(now, seat.port, followed, visitor);
             let _ = self.clients.push(status);
         }
     }
 
-    /// Looks at all clients of a server.
-    fn count<P: Ports>(&mut self, now: u64, server: &Loop<P>) {
-        self.forget();
+    /// Looks at all clients of a server. Those who left lost so many records.
+    fn count<P: Ports>(&mut self, now: u64, server: &Loop<P>, lost: u64) {
+        self.forget(lost);
         for seat in server.seats() {
             self.tell(server, seat, now);
         }
@@ -150,8 +159,9 @@ impl Watch {
         note_all(self.arrivals.as_mut_slice(), rings, now);
     }
 
-    /// Looks at the clients, once a second at most.
-    pub fn gather<P: Ports>(&mut self, now: u64, server: &Loop<P>)
+    /// Looks at the clients, once a second at most. Those who left so far lost so many records: what all lost is summed
+    /// at this look, so that it never falls.
+    pub fn gather<P: Ports>(&mut self, now: u64, server: &Loop<P>, lost: u64)
         ensures again { self.old.gathered ≡ Some (now / 1000) → self.new ≡ self.old }
         ensures second { self.new.gathered ≡ Some (now / 1000) }
         ensures minutes { self.old.gathered ≢ Some (now / 1000) →
@@ -163,7 +173,7 @@ impl Watch {
         }
         self.gathered = Some(second);
         reach_all(self.arrivals.as_mut_slice(), now / 60_000);
-        self.crowd.count(now, server);
+        self.crowd.count(now, server, lost);
     }
 
     /// What is told of the station at a place, if one is there.
@@ -284,6 +294,7 @@ impl Watch {
             refusals: told.refusals,
             away: told.away,
             client_bytes: told.client_bytes,
+            client_lost: self.crowd.lost,
             turns: told.turns,
             stations,
             clients: self.crowd.clients.as_slice(),
@@ -339,16 +350,47 @@ fn behind_in(rings: &Rings, session: &Session) -> u64
     }
 }
 
-/// What is told of a client, if it is known who it is.
-fn with_visitor(
+/// What a client's session tells of it.
+#[derive(Clone, Copy)]
+struct Followed {
+    /// How many stations it named.
+    named: u64,
+    /// How many of their records its transfer has not looked at.
+    behind: u64,
+    /// How many went out of their rings before it came to them.
+    lost: u64,
+}
+
+impl Followed {
+    /// What a session tells.
+    fn by(rings: &Rings, session: &Session) -> Followed
+        ensures named { result.named ≡ length (chosen_of session.now.mode) }
+        ensures behind { result.behind
+            ≡ ahead_by session.now.state rings.now (map entry_of (chosen_of session.now.mode)) }
+        ensures lost { result.lost ≡ session.now.lost }
+    {
+        Followed {
+            named: session.choices().len() as u64,
+            behind: behind_in(rings, session),
+            lost: session.lost(),
+        }
+    }
+}
+
+/// What is told of a client at a port, if it is known who it is.
+fn client_status(
     now: u64,
     port: u64,
-    named: u64,
-    behind: u64,
+    followed: Followed,
     visitor: Option<PresentClient>,
 ) -> ClientStatus
-    ensures { result ≡ with_visitor_of now port named behind visitor }
+    ensures { result ≡ client_status_of now port followed visitor }
 {
+    let Followed {
+        named,
+        behind,
+        lost,
+    } = followed;
     match visitor {
         Some(visitor) => ClientStatus {
             number: port,
@@ -357,6 +399,7 @@ fn with_visitor(
             named,
             bytes: visitor.bytes,
             behind,
+            lost,
         },
         None => ClientStatus {
             number: port,
@@ -365,18 +408,7 @@ fn with_visitor(
             named,
             bytes: 0,
             behind,
+            lost,
         },
     }
-}
-
-/// What is told of a client.
-fn client_status(
-    rings: &Rings,
-    session: &Session,
-    port: u64,
-    now: u64,
-    visitor: Option<PresentClient>,
-) -> ClientStatus {
-    let named = session.choices().len() as u64;
-    with_visitor(now, port, named, behind_in(rings, session), visitor)
 }

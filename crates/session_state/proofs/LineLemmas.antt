@@ -31,8 +31,8 @@ use Rattle.session_state.specs.Sessions.{SessionValue, client_in, session_view, 
 use Rattle.session_state.proofs.CursorLemmas.{change-elsewhere}
 
 -- a session that negotiates while nothing waits
-abbrev pub reading : Seen → ModeValue → Line → List ℕ → Option ℕ → Option News → SessionValue
-reading places mode l u looked news = record {
+abbrev pub reading : Seen → ModeValue → Line → List ℕ → Option ℕ → ℕ → Option News → SessionValue
+reading places mode l u looked lost news = record {
   places = places;
   mode = mode;
   state = Negotiating;
@@ -40,11 +40,12 @@ reading places mode l u looked news = record {
   unread = u;
   waiting = [];
   looked = looked;
+  lost = lost;
   news = news;
 }
 
 is_reading : (a : SessionValue) → a.state ≡ Negotiating → a.waiting ≡ []
-    → a ≡ reading a.places a.mode a.open_line a.unread a.looked a.news
+    → a ≡ reading a.places a.mode a.open_line a.unread a.looked a.lost a.news
 is_reading a state none = ap (λ t. record a { state = t }) state
     ∙ ap (λ w. record a { state = Negotiating; waiting = w }) none
 
@@ -72,14 +73,14 @@ leaves config h a r state none e = ap (client_in config h) e
 
 -- a session in which a change was made
 change-follows : (config : Config) (h : List Arrival) (places : Seen) (mode new : ModeValue) (l : Line) (u : List ℕ)
-    (looked : Option ℕ) (news : Option News) (change : Change)
-    → client_in config h (after_change (record (reading places mode l u looked news) { mode = new }) change)
-    ≡ follow (session_view config (reading places mode l u looked news)) h
-    (client_in config h (reading places mode l u looked news))
+    (looked : Option ℕ) (lost : ℕ) (news : Option News) (change : Change)
+    → client_in config h (after_change (record (reading places mode l u looked lost news) { mode = new }) change)
+    ≡ follow (session_view config (reading places mode l u looked lost news)) h
+    (client_in config h (reading places mode l u looked lost news))
     (negotiated_in config mode) (outcome_after change (negotiated_in config new))
-change-follows config h places mode new l u looked news Done = refl
-change-follows config h places mode new l u looked news Refused = refl
-change-follows config h places mode new l u looked news Starts = refl
+change-follows config h places mode new l u looked lost news Done = refl
+change-follows config h places mode new l u looked lost news Refused = refl
+change-follows config h places mode new l u looked lost news Starts = refl
 
 pub changes : (config : Config) (h : List Arrival) (a r : SessionValue) (mode : ModeValue) (change : Change)
     (outcome : Outcome) → a.state ≡ Negotiating → a.waiting ≡ [] → r ≡ after_change (record a { mode = mode }) change
@@ -90,7 +91,7 @@ changes config h a r mode change outcome state none e same =
     ap (client_in config h) e
     ∙ ap (λ (x : SessionValue). client_in config h (after_change (record x { mode = mode }) change))
     (is_reading a state none)
-    ∙ change-follows config h a.places a.mode mode a.open_line a.unread a.looked a.news change
+    ∙ change-follows config h a.places a.mode mode a.open_line a.unread a.looked a.lost a.news change
     ∙ ap (λ (x : SessionValue). follow (session_view config x) h (client_in config h x) (negotiated_in config a.mode)
     (outcome_after change (negotiated_in config mode))) (sym (is_reading a state none))
     ∙ ap (follow (session_view config a) h (client_in config h a) (negotiated_in config a.mode)) same
@@ -142,7 +143,7 @@ pub reads_byte : (config : Config) (h : List Arrival) (a n r : SessionValue) (in
     → client_in config h r ≡ read_byte (session_view config a) h b (client_in config h a)
 reads_byte config h a n r instruction b state none line answers same =
     let a_is = is_reading a state none in
-    let n_is : n ≡ reading a.places a.mode (open_after a.open_line (b ∷ [])) a.unread a.looked a.news
+    let n_is : n ≡ reading a.places a.mode (open_after a.open_line (b ∷ [])) a.unread a.looked a.lost a.news
     = line
     ∙ ap (λ (x : SessionValue). record x { open_line = open_after a.open_line (b ∷ []) }) a_is in
     answers
@@ -150,7 +151,7 @@ reads_byte config h a n r instruction b state none line answers same =
     (outcome_by config (session_view config x) (negotiated_in config x.mode) instruction)) n_is
     ∙ ap
     (follow (session_view config a) h
-    (client_in config h (reading a.places a.mode (open_after a.open_line (b ∷ [])) a.unread a.looked a.news))
+    (client_in config h (reading a.places a.mode (open_after a.open_line (b ∷ [])) a.unread a.looked a.lost a.news))
     (negotiated_in config a.mode)) (sym (same (negotiated_in config a.mode)))
     ∙ sym (read_byte-lines (session_view config a) h a.open_line (negotiated_in config a.mode) a.unread b)
     ∙ ap (λ (x : SessionValue). read_byte (session_view config a) h b (client_in config h x)) (sym a_is)

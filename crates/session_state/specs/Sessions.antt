@@ -1,5 +1,5 @@
 -- A session, and the client that it is beside a configuration and a history.
-use Rattle.std.specs.Prelude.{◌≡◌, ℕ, ◌+◌, nat_lt, if◌then◌else◌, Bool, true, false, List, [], length, drop, map}
+use Rattle.std.specs.Prelude.{◌≡◌, ℕ, ◌+◌, ◌-◌, ◌^◌, min, nat_lt, if◌then◌else◌, Bool, true, false, List, [], length, drop, map}
 use Rattle.std.specs.Prelude.{filter_map, slice_get, Option, Some, None, All}
 use Rattle.std.specs.List.{before_first, position_or_len}
 use Rattle.protocol.specs.Lines.{Line, is_line_end, open_after}
@@ -33,6 +33,8 @@ pub record SessionValue : Type 0 where
   pub waiting : List ℕ
   -- how many records had arrived when all requests were last found to have looked at their rings
   pub looked : Option ℕ
+  -- how many records its requests lost: they went out of their rings before a cursor came to them
+  pub lost : ℕ
   -- what there is to tell of the negotiation
   pub news : Option News
 
@@ -97,9 +99,13 @@ with_line made s (Some line) = record s { state = Listing (made + 1); waiting = 
 abbrev pub line_made : Config → ℕ → SessionValue → SessionValue
 line_made config made s = with_line made s (slice_get (listing (session_view config s)) made)
 
--- the session but for how far its requests have come
+-- the session but for how far its requests have come, and for what they lost
 abbrev pub but_for_cursors : SessionValue → SessionValue
-but_for_cursors s = record s { mode = all_at_start s.mode; looked = None }
+but_for_cursors s = record s { mode = all_at_start s.mode; looked = None; lost = 0 }
+
+-- a count of lost records and so many more, at most 2^64 - 1
+abbrev pub lost_with : (lost records : ℕ) → ℕ
+lost_with lost records = min (lost + records) (2 ^ 64 - 1)
 
 -- A session that is in a transfer after a call was in it before, with the same requests, and knows the same of them.
 pub record KeepsTransfer (before after : SessionValue) : Type 0 where

@@ -69,6 +69,7 @@ pub struct Session {
     waiting: Waiting,
     sent: usize,
     looked: Option<u64>,
+    lost: u64,
     news: Option<News>,
 }
 
@@ -86,6 +87,7 @@ impl Model for Session {
       unread = drop s.read s.unread.items;
       waiting = drop s.sent s.waiting;
       looked = s.looked;
+      lost = s.lost;
       news = s.news;
     } };
 
@@ -112,6 +114,7 @@ impl Session {
         ensures places { IfOk result (λ s. s.places ≡ view) }
         ensures settled { IfOk result (λ s. s.state ≢ Starting) }
         ensures negotiates { IfOk result (λ s. s.state ≡ Negotiating) }
+        ensures lost { IfOk result (λ s. s.lost ≡ 0) }
         ensures news { IfOk result (λ s. s.news ≡ None) }
     {
         let mode = Negotiation::new(alloc, places_of(&view))?;
@@ -125,6 +128,7 @@ impl Session {
             waiting: Waiting::new(),
             sent: 0,
             looked: None,
+            lost: 0,
             news: None,
         })
     }
@@ -223,6 +227,7 @@ impl Session {
     ghost use Rattle.session_state.specs.Choices.{chosen_of, kept_in};
     ghost use Rattle.session_state.specs.Sessions.{client_in, session_view, line_made, is_listing, HasPlaces};
     ghost use Rattle.session_state.specs.Sessions.{HasFirsts, Comes, KeepsTransfer, but_for_cursors, never_starts};
+    ghost use Rattle.session_state.specs.Sessions.{lost_with};
     ghost use Rattle.session_state.specs.NewsValues.{news_on, news_received, news_taken};
     ghost use Rattle.session_state.specs.declared.news.News.TheVariants.{Begins};
     ghost use Rattle.session_state.specs.declared.session.State.TheVariants.{Negotiating, Listing, Starting, Transfer};
@@ -429,6 +434,23 @@ impl Session {
     {
         let _ = &self.state;
         self.looked = Some(arrivals);
+    }
+
+    /// Counts records that its requests lost: they went out of their rings before a cursor came to them. The count is 0
+    /// to 2^64 - 1, where it stays.
+    pub fn lose(&mut self, records: u64)
+        ensures { self.new ≡ record self.old { lost = lost_with self.old.lost records } }
+    {
+        let _ = &self.state;
+        self.lost = self.lost.saturating_add(records);
+    }
+
+    /// How many records its requests lost so far.
+    pub fn lost(&self) -> u64
+        ensures { result ≡ self.now.lost }
+    {
+        let _ = &self.state;
+        self.lost
     }
 
     /// What there is to tell since this was asked last, if anything: the last of it.

@@ -168,8 +168,8 @@ impl Ring {
         let _ = &self.held;
     }
 
-    /// The place of the oldest held record, or of the next one where none is held.
-    fn first_place(&self) -> u64
+    /// The place of the oldest held record, or of the next one where none is held: places before it were let go.
+    pub fn first_place(&self) -> u64
         ensures place { result ≡ first_place self.now }
         ensures together { result + length self.now.held ≡ self.now.pushes }
     {

@@ -8,7 +8,8 @@ use Rattle.status_page.specs.declared.place.Place.TheVariants.{State, Held, Capa
 use Rattle.status_page.specs.declared.place.Place.TheVariants.{Stop, StopSeconds, Silence, SilenceAge, Bars, Followers}
 use Rattle.status_page.specs.declared.place.Place.TheVariants.{Number, Address, Here, Named, Bytes, Ahead, Name}
 use Rattle.status_page.specs.declared.place.Place.TheVariants.{StatusCode, Kind, Length, HeardCount, WaitingCount}
-use Rattle.status_page.specs.declared.place.Place.TheVariants.{SilentCount, IsSilent, Limit, LimitOrNull, SinceKnown, StartKnown}
+use Rattle.status_page.specs.declared.place.Place.TheVariants.{SilentCount, IsSilent, Limit, LimitOrNull, SinceKnown}
+use Rattle.status_page.specs.declared.place.Place.TheVariants.{StartKnown, Lost, LostRecords}
 use Rattle.status_page.specs.declared.place.Place.TheVariants as place
 use Rattle.status_page.specs.declared.place.HeadValue.{HeadValue}
 use Rattle.status_page.specs.declared.place.Row.{Row}
@@ -43,6 +44,7 @@ server_text v OpenFeeds = decimal v.open_feeds
 server_text v Records = decimal v.records
 server_text v Refused = decimal v.refused
 server_text v SentBytes = decimal v.client_bytes
+server_text v LostRecords = decimal v.client_lost
 server_text v TurnSeconds = micros_text v.turns.micros
 server_text v Turns = decimal v.turns.count
 server_text v _ = []
@@ -90,6 +92,7 @@ client_text c Here = decimal c.seconds
 client_text c Named = decimal c.named
 client_text c Bytes = decimal c.bytes
 client_text c Ahead = decimal c.behind
+client_text c Lost = decimal c.lost
 client_text c _ = []
 
 abbrev pub count_text : NamedCount → Place → List ℕ

@@ -75,6 +75,8 @@ const CLIENT: &[Piece] = &[
     Value(Place::Named),
     Text(b",\"ahead\":"),
     Value(Place::Ahead),
+    Text(b",\"lost\":"),
+    Value(Place::Lost),
     Text(b",\"bytes\":"),
     Value(Place::Bytes),
     Text(b"}"),

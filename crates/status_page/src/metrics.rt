@@ -22,6 +22,11 @@ const SERVER: &[Piece] = &[
     ),
     Text(b"# TYPE seedlinkd_client_bytes_total counter\nseedlinkd_client_bytes_total "),
     Value(Place::SentBytes),
+    Text(
+        b"\n# HELP seedlinkd_client_lost_records_total Records that clients lost to overruns.\n\
+        # TYPE seedlinkd_client_lost_records_total counter\nseedlinkd_client_lost_records_total ",
+    ),
+    Value(Place::LostRecords),
     Text(b"\n# HELP seedlinkd_turn_seconds How long the server worked between two waits.\n"),
     Text(b"# TYPE seedlinkd_turn_seconds histogram\n"),
 ];

@@ -119,7 +119,7 @@ const CLIENTS: &[Piece] = &[
     Text(b"</table></div>\n<h2>Clients</h2><div class='wide'><table><tr><th class='n'>Number</th>"),
     Text(
         b"<th>Address</th><th class='n minor'>Here for</th><th class='n minor'>Stations named</th>\
-        <th class='n'>Bytes sent</th><th class='n'>Records ahead</th></tr>\n",
+        <th class='n'>Bytes sent</th><th class='n'>Records ahead</th><th class='n'>Lost</th></tr>\n",
     ),
 ];
 
@@ -137,6 +137,8 @@ const CLIENT: &[Piece] = &[
     Value(Place::Bytes),
     Text(b"</td><td class='n'>"),
     Value(Place::Ahead),
+    Text(b"</td><td class='n'>"),
+    Value(Place::Lost),
     Text(b"</td></tr>\n"),
 ];
 

@@ -29,12 +29,13 @@ pub enum Place {
     HeardCount,
     WaitingCount,
     SilentCount,
-    /// How many clients and feeds are connected, records taken and refused, and bytes sent.
+    /// How many clients and feeds are connected, records taken and refused, bytes sent, and records that clients lost.
     OpenClients,
     OpenFeeds,
     Records,
     Refused,
     SentBytes,
+    LostRecords,
     /// How long turns took together, in seconds, and how many there were.
     TurnSeconds,
     Turns,
@@ -68,13 +69,14 @@ pub enum Place {
     Bars,
     Followers,
     /// Of a client: its number, its address, for how many seconds it is here, how many stations it named, how many
-    /// bytes it was sent, and how many records are ahead of it.
+    /// bytes it was sent, how many records are ahead of it, and how many it lost.
     Number,
     Address,
     Here,
     Named,
     Bytes,
     Ahead,
+    Lost,
     /// Of a count, also of turns: its name or its bound, and the count.
     Name,
     Count,
@@ -134,6 +136,7 @@ fn put_server(text: &mut Vec<u8>, status: &StatusValue<'_>, place: Place) -> Res
         Place::Records => put_number(text, status.records),
         Place::Refused => put_number(text, status.refused),
         Place::SentBytes => put_number(text, status.client_bytes),
+        Place::LostRecords => put_number(text, status.client_lost),
         Place::TurnSeconds => put_micros(text, status.turns.micros),
         Place::Turns => put_number(text, status.turns.count),
         _ => Ok(()),
@@ -213,6 +216,7 @@ fn put_client(text: &mut Vec<u8>, client: &ClientStatus, place: Place) -> Result
         Place::Named => put_number(text, client.named),
         Place::Bytes => put_number(text, client.bytes),
         Place::Ahead => put_number(text, client.behind),
+        Place::Lost => put_number(text, client.lost),
         _ => Ok(()),
     }
 }

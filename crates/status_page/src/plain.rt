@@ -69,6 +69,8 @@ const CLIENT: &[Piece] = &[
     Text(b"\t"),
     Value(Place::Ahead),
     Text(b"\t"),
+    Value(Place::Lost),
+    Text(b"\t"),
     Value(Place::Bytes),
     Text(b"\t"),
     Value(Place::Address),
@@ -82,7 +84,7 @@ static PLAIN: [Section; 4] = [
         chosen: Chosen::All,
         pieces: STATION,
     }),
-    Section::Once(&[Text(b"\nNUMBER\tHERE s\tNAMED\tAHEAD\tBYTES\tADDRESS\n")]),
+    Section::Once(&[Text(b"\nNUMBER\tHERE s\tNAMED\tAHEAD\tLOST\tBYTES\tADDRESS\n")]),
     Section::Clients(CLIENT),
 ];
 

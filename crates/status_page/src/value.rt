@@ -110,6 +110,8 @@ pub struct ClientStatus {
     pub bytes: u64,
     /// How many records of these came that its transfer has not looked at, wanted or not.
     pub behind: u64,
+    /// How many records of these went out of their rings before it came to them, wanted or not. It stays at 2^64 - 1.
+    pub lost: u64,
 }
 
 /// How many turns took no longer than a bound.
@@ -157,6 +159,8 @@ pub struct StatusValue<'a> {
     pub away: &'a [NamedCount<'a>],
     /// How many bytes of answers and packets clients were sent, those who left too.
     pub client_bytes: u64,
+    /// How many records went out of their rings before a client came to them, those of clients who left too.
+    pub client_lost: u64,
     pub turns: TurnTimes<'a>,
     pub stations: &'a [StationStatus<'a>],
     pub clients: &'a [ClientStatus],

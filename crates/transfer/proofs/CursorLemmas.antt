@@ -76,15 +76,13 @@ Finds r place c next found = (x : Held) → held_at r place ≡ Some x → found
 -- ---- a cursor that moves on
 
 -- What lies before the oldest record is passed.
-pub passed-raised : (r : RingValue) (next : ℕ) (c : Choice) (start oldest : ℕ) → IsRing r → Some oldest ≡ oldest_place r
-    → start ≡ max c.cursor.ring_place oldest → HasPassed r next c c.cursor
-    → HasPassed r next c (at_place start c.cursor.ended)
-passed-raised r next c start oldest holds is raised so_far =
-    let first : oldest ≡ first_place r = oldest-first r oldest is in
+pub passed-raised : (r : RingValue) (next : ℕ) (c : Choice) (start : ℕ) → start ≡ max c.cursor.ring_place (first_place r)
+    → HasPassed r next c c.cursor → HasPassed r next c (at_place start c.cursor.ended)
+passed-raised r next c start raised so_far =
     let old : (place : ℕ) (x : Held) → place < start → held_at r place ≡ Some x → place < c.cursor.ring_place =
-    λ place x low there. omega (arith, (held_at-low r place x there).0, raised, first) in
+    λ place x low there. omega (arith, (held_at-low r place x there).0, raised) in
     record {
-      within = omega (arith, so_far.within, raised, first);
+      within = omega (arith, so_far.within, raised);
       unwanted = λ place x low there. so_far.unwanted place x (old place x low there) there;
       told = λ place x low there after. so_far.told place x (old place x low there) there after;
       before = omega (arith, so_far.before, raised);
@@ -195,22 +193,6 @@ rests-end r next c place ended holds past so_far =
           ∙ ap (option_map (λ (x : Held). x.stamp)) (sym (none-next r r.pushes holds (omega arith)));
       holding = holds;
     }
-
--- A ring to which nothing was pushed holds nothing.
-pub rests-empty : (r : RingValue) (next : ℕ) (c : Choice) → IsRing r → None ≡ oldest_place r
-    → HasPassed r next c c.cursor → RestsAt r next c (at_end r c.cursor.ended)
-rests-empty r next c holds none so_far =
-    let nothing = holds-nothing r none in
-    let pushes : r.pushes ≡ 0 = omega (arith, holds.count, holds.some_capacity) in
-    let passed : HasPassed r next c (at_place c.cursor.ring_place c.cursor.ended) =
-    record {
-      within = so_far.within;
-      unwanted = so_far.unwanted;
-      told = so_far.told;
-      before = so_far.before;
-      after = so_far.after;
-    } in
-    rests-end r next c c.cursor.ring_place c.cursor.ended holds (omega arith) passed
 
 -- ---- the record at a cursor
 

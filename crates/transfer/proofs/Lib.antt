@@ -6,6 +6,7 @@ pub mod KeptLemmas
 pub mod ChooseLemmas
 pub mod ScanLemmas
 pub mod CursorLemmas
+pub mod LostLemmas
 pub mod RestLemmas
 pub mod FirstsLemmas
 pub mod StartLemmas

@@ -103,6 +103,16 @@ pub record Passes (i : ℕ) (cursor : Cursor) (a n : SessionValue) : Type 0 wher
   pub others : (j : ℕ) → j ≢ i → slice_get (chosen_of n.mode) j ≡ slice_get (chosen_of a.mode) j
   pub count : length (chosen_of n.mode) ≡ length (chosen_of a.mode)
 
+-- The same of a session whose requests are those of another one, as one that only counts more records as lost.
+pub passes-from : (i : ℕ) (cursor : Cursor) (a m n : SessionValue) → but_for_cursors m ≡ but_for_cursors a
+    → m.mode ≡ a.mode → Passes i cursor m n → Passes i cursor a n
+passes-from i cursor a m n same mode passes = record {
+  same = passes.same ∙ same;
+  here = λ c at. passes.here c (subst (λ q. slice_get (chosen_of q) i ≡ Some c) (sym mode) at);
+  others = λ j apart. passes.others j apart ∙ ap (λ q. slice_get (chosen_of q) j) mode;
+  count = passes.count ∙ ap (λ q. length (chosen_of q)) mode;
+}
+
 pub moves-on : (P : Choice → Type 0) (i : ℕ) (cursor : Cursor) (a n start : SessionValue) (c : Choice)
     → Passes i cursor a n → slice_get (chosen_of a.mode) i ≡ Some c → P (record c { cursor = cursor })
     → Moves P i a start → Moves P (i + 1) n start

@@ -1,6 +1,6 @@
 -- How far the requests of a transfer have come in the rings of their stations. A cursor is a place before which a
 -- request wants nothing more. SeedLink 3, DATA, FETCH and TIME. Left out: how a cursor is moved.
-use Rattle.std.specs.Prelude.{◌≡◌, ◌≢◌, ℕ, ◌+◌, ◌<◌, ◌≤◌, Bool, true, false, int_lt, if◌then◌else◌, is_some, List, []}
+use Rattle.std.specs.Prelude.{◌≡◌, ◌≢◌, ℕ, suc, zero, ◌+◌, ◌-◌, ◌<◌, ◌≤◌, Bool, true, false, int_lt, if◌then◌else◌, is_some, List, []}
 use Rattle.std.specs.Prelude.{◌∷◌}
 use Rattle.std.specs.Prelude.{Option, Some, None, option_map, slice_get}
 use Rattle.station_ring.specs.declared.held.Held.{Held}
@@ -14,7 +14,7 @@ use Rattle.session_state.specs.declared.choices.Entry.{Entry}
 use Rattle.session_state.specs.NamedValues.{ModeValue}
 use Rattle.session_state.specs.declared.session.State.TheVariants.{Transfer}
 use Rattle.session_state.specs.Choices.{chosen_of}
-use Rattle.session_state.specs.Sessions.{SessionValue}
+use Rattle.session_state.specs.Sessions.{SessionValue, lost_with}
 use Rattle.transfer.specs.Wanting.{wants_held}
 
 -- The record starts after the end of TIME, where one is asked.
@@ -109,6 +109,27 @@ pub record RestsIn (rings : RingsValue) (next : ℕ) (c : Choice) : Type 0 where
 pub record IsReached (rings : RingsValue) (c : Choice) : Type 0 where
   pub reached : (r : RingValue) (action : Action) → slice_get rings.rings c.station ≡ Some r → c.action ≡ Some action
       → c.cursor.ring_place ≡ r.pushes
+
+-- ---- what a request lost
+
+-- how many records the ring let go that were at the cursor or after it
+abbrev pub lost_at : RingValue → Cursor → ℕ
+lost_at r cursor = first_place r - cursor.ring_place
+
+-- the session with so many more that were lost
+abbrev pub with_lost : SessionValue → ℕ → SessionValue
+with_lost s zero = s
+with_lost s (suc n) = record s { lost = lost_with s.lost (suc n) }
+
+-- how many records a look at a ring finds lost: none if there is no ring, or nothing is asked
+abbrev pub lost_in : Option RingValue → Option Action → Cursor → ℕ
+lost_in (Some r) (Some action) cursor = lost_at r cursor
+lost_in (Some r) None cursor = 0
+lost_in None action cursor = 0
+
+-- the same of a named station
+abbrev pub lost_of : RingsValue → Choice → ℕ
+lost_of rings c = lost_in (slice_get rings.rings c.station) c.action c.cursor
 
 -- ---- of all requests
 

@@ -7,6 +7,7 @@ mod cursors;
 mod filters;
 mod handing;
 mod overview;
+mod reaching;
 mod runs;
 mod searching;
 mod sleeping;

@@ -13,11 +13,12 @@ ghost use Rattle.session_state.specs.Entries.{TellsAhead};
 ghost use Rattle.session_state.specs.declared.choices.Ahead.TheVariants.{Nobody};
 ghost use Rattle.session_state.specs.Choices.{chosen_of};
 ghost use Rattle.session_state.specs.Sessions.{but_for_cursors};
-ghost use Rattle.transfer.specs.Cursors.{HasLooked, HasPassedAll, OfAll, PassedIn, RestsIn};
+ghost use Rattle.transfer.specs.Cursors.{HasLooked, HasPassedAll, OfAll, PassedIn, RestsIn, lost_of, with_lost};
 ghost use Rattle.transfer.specs.Firsts.{Glances, IsBest, IsOverview, LeadsSoFar, best_of, earlier, is_unsent};
 ghost use Rattle.transfer.specs.Choosing.{comes_before};
 
-use crate::wanting::{cursor_in, unasked};
+use crate::reaching::{cursor_in, start_of};
+use crate::wanting::unasked;
 use session_state::{Cursor, Entry, First, Session};
 use station_ring::Rings;
 
@@ -44,18 +45,27 @@ fn is_fresh(entry: &Entry, rings: &Rings, next: u64) -> bool
     }
 }
 
-/// How far the request for the i-th named station comes that passes what it doesn't want.
-fn cursor_of(session: &Session, i: usize, rings: &Rings, next: u64) -> Cursor
-    requires { i < length (chosen_of session.now.mode) }
-    ensures { (c : Choice) → slice_get (chosen_of session.now.mode) i ≡ Some c → PassedIn rings.now next c
+/// How far the request for the i-th named station comes that passes what it doesn't want. The records that it lost are
+/// counted.
+fn cursor_of(session: &mut Session, i: usize, rings: &Rings, next: u64) -> Cursor
+    requires { i < length (chosen_of session.old.mode) }
+    ensures cursor { (c : Choice) → slice_get (chosen_of session.old.mode) i ≡ Some c → PassedIn rings.now next c
         → RestsIn rings.now next (record c { cursor = result }) }
+    ensures lost { (c : Choice) → slice_get (chosen_of session.old.mode) i ≡ Some c
+        → session.new ≡ with_lost session.old (lost_of rings.now c) }
+    ensures same { but_for_cursors session.new ≡ but_for_cursors session.old }
+    ensures mode { session.new.mode ≡ session.old.mode }
+    ensures looked { session.new.looked ≡ session.old.looked }
 {
     let entry = session.choice(i);
     if entry.action.is_none() {
         return unasked();
     }
     match rings.ring(entry.station) {
-        Some(ring) => cursor_in(ring, session, i, next),
+        Some(ring) => {
+            let start = start_of(session, i, ring);
+            cursor_in(ring, session, i, next, start)
+        }
         None => unasked(),
     }
 }

@@ -10,10 +10,9 @@ ghost use Rattle.station_ring.specs.declared.held.Held.{Held as HeldValue};
 ghost use Rattle.station_ring.specs.Briefs.{stream_of};
 ghost use Rattle.station_ring.specs.Rings.{held_at};
 ghost use Rattle.transfer.specs.Wanting.{facts_of, is_in_window_of, wants_held};
-ghost use Rattle.transfer.specs.Cursors.{is_after_end, HasPassed, RestsAt};
+ghost use Rattle.transfer.specs.Cursors.{is_after_end, HasPassed};
 ghost use Rattle.transfer.specs.Founds.{found_of};
 
-use crate::searching::{SearchReached, search_from};
 use session_state::{Action, Cursor, Entry, Session};
 use sl_time::Tick;
 use station_ring::{Held, Ring, Summary};
@@ -190,50 +189,6 @@ pub(crate) fn found_at(
         Found::AfterEnd
     } else {
         Found::Unwanted
-    }
-}
-
-/// How far the request for the i-th named station comes that passes what it doesn't want: to the first record from its
-/// cursor on that it wants, else to the end. A cursor that was overrun goes on at the oldest record. Mostly the record
-/// at the cursor was just sent and the next one is wanted, so that these two are looked at themselves, and only those
-/// after them by their briefs.
-pub fn cursor_in(ring: &Ring, session: &Session, i: usize, next: u64) -> Cursor
-    requires { i < length (chosen_of session.now.mode) }
-    ensures { (c : Choice) → slice_get (chosen_of session.now.mode) i ≡ Some c → HasPassed ring.now next c c.cursor
-        → RestsAt ring.now next c result }
-{
-    ring.holds_its_last();
-    let entry = session.choice(i);
-    let Some(oldest) = ring.oldest() else {
-        return at_end(ring, entry.cursor.ended);
-    };
-    let start = entry.cursor.ring_place.max(oldest);
-    let ended = entry.cursor.ended;
-    if start >= ring.pushes() {
-        return at_end(ring, ended);
-    }
-    match found_at(ring, start, session, i, entry, next) {
-        Found::Wanted(stamp) => at_record(ring, start, ended, stamp),
-        Found::AfterEnd => search_from(
-            ring,
-            session,
-            i,
-            next,
-            SearchReached {
-                place: start + 1,
-                ended: start + 1,
-            },
-        ),
-        Found::Unwanted => search_from(
-            ring,
-            session,
-            i,
-            next,
-            SearchReached {
-                place: start + 1,
-                ended,
-            },
-        ),
     }
 }
 

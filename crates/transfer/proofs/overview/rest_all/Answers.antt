@@ -4,7 +4,7 @@ use Rattle.session_state.specs.NamedValues.{ahead_of}
 use Rattle.transfer.specs.Firsts.{best_of, earlier}
 use Rattle.transfer.proofs.BestLemmas.{best-more, best-whole, moves-between, take-alike}
 use Rattle.transfer.proofs.EntryLemmas.{choice-there, item-is, same-length}
-use Rattle.transfer.proofs.RestLemmas.{moves-all, moves-none, moves-on}
+use Rattle.transfer.proofs.RestLemmas.{moves-all, moves-none, moves-on, passes-from}
 use Rattle.transfer.proofs.overview.rest_all.Goals as goal
 
 pub loop-i-init : goal.loop-i-init
@@ -42,7 +42,11 @@ pub cursor_of-cursor-requires : goal.cursor_of-cursor-requires
 cursor_of-cursor-requires c = (c.in-Stale.ensures (chosen_of c.loop-i.session.mode) (sym c.choices.ensures)).within
 
 pub move_cursor-requires : goal.move_cursor-requires
-move_cursor-requires c = (c.in-Stale.ensures (chosen_of c.loop-i.session.mode) (sym c.choices.ensures)).within
+move_cursor-requires c =
+    let within = (c.in-Stale.ensures (chosen_of c.loop-i.session.mode) (sym c.choices.ensures)).within in
+    let count : length (chosen_of c.cursor_of-cursor.new.session.mode) ≡ length (chosen_of c.loop-i.session.mode) =
+    ap (λ m. length (chosen_of m)) c.cursor_of-cursor.ensures.mode in
+    omega (arith, within, count)
 
 pub loop-i-preserved : goal.loop-i-preserved
 loop-i-preserved c =
@@ -57,24 +61,27 @@ loop-i-preserved c =
     let x = choice-there cs index within in
     let moves = moves-between c.args.rings.now c.args.next c.loop-i.from index c.loop-i.session c.args.session.now after
     over.rests c.loop-i.invariant.0 in
-    let longer : length new ≡ length cs = c.move_cursor.ensures.count in
+    let counted = c.cursor_of-cursor.ensures in
+    let passes = passes-from index cursor c.loop-i.session c.cursor_of-cursor.new.session c.move_cursor.new.self
+    counted.same counted.mode
+    (record {
+      same = c.move_cursor.ensures.same;
+      here = c.move_cursor.ensures.here;
+      others = c.move_cursor.ensures.others;
+      count = c.move_cursor.ensures.count;
+    }) in
+    let longer : length new ≡ length cs = passes.count in
     let alike : take index new ≡ take index cs = take-alike new cs index
-    (λ j low. c.move_cursor.ensures.others j (λ e. absurd (omega (arith, e, low)))) in (
-      moves-on _ index cursor c.loop-i.session c.move_cursor.new.self c.args.session.now x.0
-          (record {
-            same = c.move_cursor.ensures.same;
-            here = c.move_cursor.ensures.here;
-            others = c.move_cursor.ensures.others;
-            count = c.move_cursor.ensures.count;
-          }) x.1
-          (λ all. c.cursor_of-cursor.ensures x.0 x.1 (all index x.0 (sym (moves.rest index (omega arith)) ∙ x.1)))
+    (λ j low. passes.others j (λ e. absurd (omega (arith, e, low)))) in (
+      moves-on _ index cursor c.loop-i.session c.move_cursor.new.self c.args.session.now x.0 passes x.1
+          (λ all. counted.cursor x.0 x.1 (all index x.0 (sym (moves.rest index (omega arith)) ∙ x.1)))
           moves,
       c.earlier-best.ensures
           ∙ ap (earlier c.in-Stale.before index) c.ahead.ensures
           ∙ ap (λ b. earlier b index (ahead_of cursor)) (over.best c.loop-i.invariant.1 ∙ ap best_of (sym alike))
           ∙ sym
           (best-more new index (record (x.0) { cursor = cursor }) (omega (arith, within, longer))
-          (item-is new index _ (c.move_cursor.ensures.here x.0 x.1))),
+          (item-is new index _ (passes.here x.0 x.1))),
       omega (arith, after, c.loop-i.invariant.2),
       omega (arith, within, count, c.loop-i.invariant.4),
       c.loop-i.invariant.4,
