@@ -1,4 +1,5 @@
-"""Records that were overwritten before a client came to them: how many the status port and the log say that it lost."""
+"""What clients were sent and what they lost: how many packets of each station the log says, and how many records that were overwritten before
+a client came to them the status port and the log say."""
 
 import json
 import re
@@ -48,6 +49,11 @@ def handed(client, last):
 def closed(server):
     """What the log says of clients who are gone, in their order."""
     return re.findall(r"seedlinkd: close (\d+) 127\.0\.0\.1 bytes \d+(.*)$", server.said(), re.M)
+
+
+def sent(server):
+    """What the log says of packets that clients were sent."""
+    return re.findall(r"^seedlinkd: sent (.*)$", server.said(), re.M)
 
 
 @kit.unreleased
@@ -107,3 +113,49 @@ class Lost(kit.Test):
         both = {0: lost + FED - handed(first, records[-1]), 1: FED - handed(second, records[-1])}
         kit.until(lambda: lost_of(server) == both, lambda: "%r and not %r" % (both, lost_of(server)))
         kit.until(lambda: lost_in_all(server) == sum(both.values()), "the sum of both")
+
+    def test_the_packets_of_each_station_are_counted(self):
+        server = self.serve(kit.CENTRE)
+        client = self.keep(server.client())
+        client.say(b"STATION WLF GE\rDATA\rSTATION APE GE\rFETCH\rSTATION APE XX\rDATA\rEND\r", OK * 6)
+        records = [record(it, "APE" if it % 3 else "WLF") for it in range(60)]
+        server.feed(*records)
+        handed(client, records[-1])
+        client.leave()
+        server.await_said("seedlinkd: close ")
+        self.assertEqual(sent(server), ["0 127.0.0.1 GE WLF packets 20", "0 127.0.0.1 GE APE packets 40"])
+
+    def test_what_no_packet_was_sent_of_has_no_line(self):
+        server = self.serve(kit.CENTRE)
+        for said in (b"CAT\r", b"STATION WLF GE\rDATA\rEND\r"):
+            client = self.keep(server.client())
+            client.send(said)
+            server.turns()
+            client.leave()
+        server.await_said("seedlinkd: close ", 4)
+        self.assertEqual(sent(server), [])
+
+    def test_a_transfer_of_one_station_is_counted(self):
+        server = self.serve(kit.CENTRE)
+        records = [record(it, "APE") for it in range(30)]
+        server.feed(*records)
+        client = self.keep(server.client())
+        client.say(b"FETCH\r", b"")
+        self.assertEqual(client.rest()[-3:], b"END")
+        server.await_said("seedlinkd: close ")
+        self.assertEqual(sent(server), ["0 127.0.0.1 GE APE packets 30"])
+
+    def test_at_most_64_stations_have_a_line(self):
+        stations = "".join('[[station]]\nnetwork = "XX"\ncode = "S%03d"\ndescription = ""\ncapacity = 4\n' % it for it in range(70))
+        server = self.serve('title = "t"\n' + stations)
+        client = self.keep(server.client())
+        client.say(b"".join(b"STATION S%03d XX\rDATA\r" % it for it in range(70)), OK * 140)
+        client.send(b"END\r")
+        server.turns()
+        records = [record(it, "S%03d" % it, network="XX") for it in range(70)]
+        server.feed(*records)
+        handed(client, records[-1])
+        client.leave()
+        server.await_said("seedlinkd: close ", 2)
+        wanted = ["1 127.0.0.1 XX S%03d packets 1" % it for it in range(64)] + ["1 127.0.0.1 and 6 more"]
+        self.assertEqual([it for it in sent(server)], [it.replace("1 127", "0 127", 1) for it in wanted])

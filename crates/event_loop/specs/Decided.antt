@@ -1,7 +1,7 @@
 -- What the loop says that it decides.
 -- The loop is this project's own. Left out: whether anybody hears it.
-use Rattle.std.specs.Prelude.{◌≡◌, ◌≢◌, ℕ, ◌<◌, ◌≤◌, Bool, true, List, [], ◌∷◌, length, slice_index, Option, None, Some}
-use Rattle.std.specs.Prelude.{Result, Ok, Err, flat_map, nat_lt, if◌then◌else◌}
+use Rattle.std.specs.Prelude.{◌≡◌, ◌≢◌, ℕ, ◌+◌, ◌<◌, ◌≤◌, Bool, true, List, [], ◌∷◌, ◌++◌, length, map, slice_index, Option, None, Some}
+use Rattle.std.specs.Prelude.{Result, Ok, Err, flat_map, nat_lt, if◌then◌else◌, slice_index_or}
 use Rattle.protocol.specs.Catalog.{Config}
 use Rattle.protocol.specs.World.{World}
 use Rattle.protocol.specs.Record.{record_reason}
@@ -12,12 +12,16 @@ use Rattle.server_core.specs.declared.arrivals.ArriveFault.TheVariants.{Exhauste
 use Rattle.ports.specs.Decisions.{Decides}
 use Rattle.ports.specs.declared.decisions.AwayReason.TheVariants.{Feeds, Memory, MaxConnections}
 use Rattle.ports.specs.declared.decisions.Decision.{Decision}
-use Rattle.ports.specs.declared.decisions.Decision.TheVariants.{Cut, LetIn, Lost, Refused, TurnedAway}
+use Rattle.ports.specs.declared.decisions.Decision.TheVariants.{Cut, LetIn, Lost, Refused, Sent, TurnedAway}
 use Rattle.ports.specs.declared.decisions.Party.TheVariants.{Client, Feed}
 use Rattle.ports.specs.declared.decisions.RecordCodes.{RecordCodes}
 use Rattle.ports.specs.declared.decisions.RecordRefusal.{RecordRefusal}
 use Rattle.ports.specs.declared.decisions.RecordRefusal.TheVariants.{Other, Unknown}
+use Rattle.session_state.specs.declared.choices.Entry.{Entry}
+use Rattle.session_state.specs.Choices.{chosen_of}
+use Rattle.session_state.specs.NamedValues.{entry_of}
 use Rattle.session_state.specs.Sessions.{SessionValue}
+use Rattle.event_loop.specs.Telling.{place_codes}
 use Rattle.server_core.specs.Reloads.{is_cut_at}
 use Rattle.server_core.specs.ServerValues.{ServerValue}
 use Rattle.event_loop.specs.declared.seat.Role.{Role}
@@ -52,12 +56,30 @@ codes_in r = record {
   station = slice_index r 8 ∷ slice_index r 9 ∷ slice_index r 10 ∷ slice_index r 11 ∷ slice_index r 12 ∷ [];
 }
 
--- ---- clients that lost records
+-- ---- clients that end
 
--- what is said of a port whose client ends, by its session: how many records it lost, if any
-abbrev pub lost_said : (port : ℕ) → Option SessionValue → List (ℕ × Decision)
-lost_said port None = []
-lost_said port (Some s) = if nat_lt 0 s.lost then (port, Lost s.lost) ∷ [] else []
+-- what is said of a station of which a client was sent so many packets, if it was sent any
+abbrev pub packets_said : Config → (port place packets : ℕ) → List (ℕ × Decision)
+packets_said config port place packets =
+    if nat_lt 0 packets then (port, Sent (place_codes config place) packets) ∷ [] else []
+
+-- what is said of stations that a client named, in order, from the request with an index on, by how many packets each
+-- request was sent
+abbrev pub all_packets_said : Config → (port index : ℕ) → List Entry → (packets : List ℕ) → List (ℕ × Decision)
+all_packets_said config port index [] packets = []
+all_packets_said config port index (e ∷ es) packets =
+    packets_said config port e.station (slice_index_or packets index 0)
+    ++ all_packets_said config port (index + 1) es packets
+
+-- how many records a client lost, if any
+abbrev pub lost_said : (port lost : ℕ) → List (ℕ × Decision)
+lost_said port lost = if nat_lt 0 lost then (port, Lost lost) ∷ [] else []
+
+-- what is said of a port whose client ends, by its session: what it was sent, and how many records it lost
+abbrev pub traffic_said : Config → (port : ℕ) → Option SessionValue → List (ℕ × Decision)
+traffic_said config port None = []
+traffic_said config port (Some s) =
+    all_packets_said config port 0 (map entry_of (chosen_of s.mode)) s.packets ++ lost_said port s.lost
 
 -- ---- clients that a new configuration cuts
 

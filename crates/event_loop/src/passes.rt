@@ -19,7 +19,7 @@ ghost use Rattle.server_core.specs.Marks.{LeavesOthers};
 ghost use Rattle.server_core.specs.Refusals.{offer_of};
 ghost use Rattle.server_core.specs.ServerValues.{MayTake, StandsAt};
 ghost use Rattle.server_core.specs.declared.client.Offer.TheVariants.{Idle};
-ghost use Rattle.event_loop.specs.Decided.{lost_said};
+ghost use Rattle.event_loop.specs.Decided.{traffic_said};
 ghost use Rattle.event_loop.specs.Deeds.{Tally};
 ghost use Rattle.event_loop.specs.Passes.{ClientReads, ClientWrites, room_in};
 ghost use Rattle.event_loop.specs.Going.{Once, Whole, if_open};
@@ -43,11 +43,12 @@ pub enum Onward {
     Over,
 }
 
-/// A client's port is shut, it is said what it lost and why it ends, and the client is closed.
+/// A client's port is shut, it is said what it was sent and lost, and why it ends, and the client is closed.
 fn shut<P: Ports>(server: &mut Server, ports: &mut P, client: &Client, port: u64, ending: Ending)
     ensures call { Tells (P.calls ports.old) (P.calls ports.new) (Shut port ∷ []) }
     ensures decides { Decides (P.decided ports.old) (P.decided ports.new)
-        (lost_said port (slice_index_or server.old.sessions client.now None) ++ (port, Ends ending) ∷ []) }
+        (traffic_said server.old.config port (slice_index_or server.old.sessions client.now None)
+        ++ (port, Ends ending) ∷ []) }
     ensures stands { (config : Config) (w : World) → StandsAt server.old config w
         → StandsAt server.new config (step config w (Close client.now)) }
     ensures others { LeavesOthers client.now server.old server.new }

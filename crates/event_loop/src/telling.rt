@@ -31,7 +31,7 @@ fn codes_of(asked: AskedStation) -> AskedCodes
 }
 
 /// The codes of the station at a place of the configuration.
-fn place_codes(config: &Config, place: usize) -> AskedCodes
+pub fn place_codes(config: &Config, place: usize) -> AskedCodes
     ensures { result ≡ place_codes config.now place }
 {
     match config.stations().get(place) {

@@ -1,5 +1,5 @@
-//! Which lines tell of the stations that clients ask for: of each that was refused once a client, and of those of a
-//! transfer that begins.
+//! Which lines tell of the stations that clients ask for: of each that was refused once a client, of those of a transfer
+//! that begins, and of those that a client was sent packets of.
 ghost use Rattle.std.specs.Prelude.{◌≡◌, ◌<◌, ◌-◌, [], IfOk, IfSome, length, nat_lt};
 ghost use Rattle.job_serve.specs.AskedStations.{is_due};
 ghost use Rattle.job_serve.specs.Refusals.{one_more};
@@ -10,7 +10,7 @@ use std::alloc::{AllocError, Global};
 use std::fmt::{self, Display, Formatter, Write};
 use std::net::Ipv4Addr;
 
-/// How many refused stations of a client have a line, and how many stations of a transfer.
+/// How many refused stations of a client have a line, how many of a transfer, and how many that it was sent packets of.
 const LINES: usize = 64;
 
 /// How many refused stations are known at once, of all clients.
@@ -52,23 +52,27 @@ impl Display for CloseLine<'_> {
     }
 }
 
-/// So many stations of a client's transfer that have no line.
+/// So many stations of a client that have no line, of those that its transfer is to have records of or was sent packets
+/// of.
 #[derive(Clone, Copy, Drop)]
-pub struct MoreReadLine {
+pub struct MoreStationsLine {
+    /// `reads` or `sent`.
+    pub word: &'static str,
     pub port: u64,
     pub address: Ipv4Addr,
     pub more: usize,
 }
 
-impl Display for MoreReadLine {
+impl Display for MoreStationsLine {
     /// As `reads 17 10.0.0.7 and 191 more`.
     fn fmt<W: Write>(&self, f: &mut Formatter<W>) -> fmt::Result {
-        let MoreReadLine {
+        let MoreStationsLine {
+            word,
             port,
             address,
             more,
         } = *self;
-        write!(f, "reads {port} {address} and {more} more")
+        write!(f, "{word} {port} {address} and {more} more")
     }
 }
 
@@ -111,8 +115,8 @@ fn is_due(is_known: bool, lines: usize, has_room: bool) -> bool
 pub struct AskedLog {
     stations: Vec<RefusedStation>,
     askers: Vec<Asker>,
-    /// How many stations were told of a transfer that is to begin.
-    reads: usize,
+    /// How many stations were told of a transfer that is to begin, or of a client that ends.
+    told: usize,
 }
 
 impl AskedLog {
@@ -120,14 +124,14 @@ impl AskedLog {
     pub fn new(alloc: Global, clients: usize) -> Result<AskedLog, AllocError>
         ensures stations { IfOk result (λ log. log.stations.items ≡ []) }
         ensures askers { IfOk result (λ log. log.askers.items ≡ []) }
-        ensures reads { IfOk result (λ log. log.reads ≡ 0) }
+        ensures told { IfOk result (λ log. log.told ≡ 0) }
     {
         let stations = Vec::with_capacity(alloc, if clients == 0 { 0 } else { STATIONS })?;
         let askers = Vec::with_capacity(alloc, clients)?;
         Ok(AskedLog {
             stations,
             askers,
-            reads: 0,
+            told: 0,
         })
     }
 
@@ -184,22 +188,23 @@ impl AskedLog {
         gone.more
     }
 
-    /// One more station is told of a transfer that is to begin. Whether a line tells it: 64 of them have one.
-    pub fn add_read(&mut self) -> bool
-        ensures line { result ≡ nat_lt self.old.reads 64 }
-        ensures count { self.new ≡ record self.old { reads = one_more self.old.reads } }
+    /// One more station is told of a transfer that is to begin, or of a client that ends. Whether it has a line: 64 of
+    /// them have one.
+    pub fn add_told(&mut self) -> bool
+        ensures line { result ≡ nat_lt self.old.told 64 }
+        ensures count { self.new ≡ record self.old { told = one_more self.old.told } }
     {
-        self.reads = self.reads.saturating_add(1);
-        self.reads <= LINES
+        self.told = self.told.saturating_add(1);
+        self.told <= LINES
     }
 
-    /// The transfer begins. How many of its stations no line told.
-    pub fn begin(&mut self) -> usize
-        ensures more { result ≡ self.old.reads - 64 }
-        ensures begins { self.new ≡ record self.old { reads = 0 } }
+    /// The transfer begins, or the client has ended. How many of its stations have no line.
+    pub fn end_told(&mut self) -> usize
+        ensures more { result ≡ self.old.told - 64 }
+        ensures ended { self.new ≡ record self.old { told = 0 } }
     {
-        let all = self.reads;
-        self.reads = 0;
+        let all = self.told;
+        self.told = 0;
         all.saturating_sub(LINES)
     }
 }

@@ -2,7 +2,7 @@
 ghost use Rattle.std.specs.Prelude.{◌≡◌, [], ◌∷◌, None, is_some};
 ghost use Rattle.ports_logged.specs.Visits.{Notes, Passes};
 
-use crate::asked::{AskedLog, CloseLine, MoreReadLine};
+use crate::asked::{AskedLog, CloseLine, MoreStationsLine};
 use crate::counts::SharedCounts;
 use crate::refusals::{RefusalLog, RefusedLine, RefusedText};
 use error_lines::{ErrorLine, ErrorLines, StandardError};
@@ -117,11 +117,18 @@ impl VisitLines<'_> {
         }
     }
 
-    /// A transfer of a client began. If it has more stations than lines told, it is told how many more.
-    fn write_more_read(&mut self, lines: &SharedLines, port: u64, address: Ipv4Addr) {
-        let more = self.asked.begin();
+    /// A list of stations of a client is over. If it has more than lines told, it is told how many more.
+    fn write_more(
+        &mut self,
+        lines: &SharedLines,
+        word: &'static str,
+        port: u64,
+        address: Ipv4Addr,
+    ) {
+        let more = self.asked.end_told();
         if more > 0 {
-            lines.write_line(&line_of(MoreReadLine {
+            lines.write_line(&line_of(MoreStationsLine {
+                word,
                 port,
                 address,
                 more,
@@ -151,13 +158,14 @@ impl VisitLines<'_> {
                     lines.write_line(&line_of(visit));
                 }
             }
-            Visit::Reads { .. } => {
-                if self.asked.add_read() {
+            Visit::Reads { .. } | Visit::Packets { .. } => {
+                if self.asked.add_told() {
                     lines.write_line(&line_of(visit));
                 }
             }
-            Visit::Begins { port, address } => self.write_more_read(lines, *port, *address),
-            Visit::Close { port, .. } => {
+            Visit::Begins { port, address } => self.write_more(lines, "reads", *port, *address),
+            Visit::Close { port, address, .. } => {
+                self.write_more(lines, "sent", *port, *address);
                 let more = self.asked.forget(*port);
                 lines.write_line(&line_of(CloseLine { visit, more }));
             }

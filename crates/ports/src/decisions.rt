@@ -98,6 +98,9 @@ pub enum Decision {
     Reads(AskedCodes, Mode),
     /// A transfer of its client begins, with the stations of which that was said.
     Begins,
+    /// Its client, whose port is shut next, was sent so many packets of this station, at least one. It is said of each
+    /// station that its transfer had packets of, in the order in which the client named them.
+    Sent(AskedCodes, u64),
     /// Its client, whose port is shut next, lost so many records, at least one: they went out of their rings before it
     /// came to them.
     Lost(u64),

@@ -7,7 +7,7 @@ use Rattle.ports.specs.declared.answers.Got.TheVariants.{Bytes}
 use Rattle.ports.specs.declared.answers.PortFault.{PortFault}
 use Rattle.ports.specs.declared.decisions.Decision.{Decision}
 use Rattle.ports.specs.declared.decisions.Decision.TheVariants.{Begins, Cut, LetIn, Lost, NoStation, Reads, TurnedAway}
-use Rattle.ports.specs.declared.decisions.Decision.TheVariants.{Ends, Refused}
+use Rattle.ports.specs.declared.decisions.Decision.TheVariants.{Ends, Refused, Sent}
 use Rattle.ports.specs.declared.decisions.Party.{Party}
 use Rattle.ports.specs.declared.decisions.Party.TheVariants.{Client, Feed}
 use Rattle.ports.specs.declared.present.PresentClient.{PresentClient}
@@ -41,6 +41,7 @@ decided_visitors port (Refused refusal) now v = counted_at port refusing v
 decided_visitors port (NoStation codes) now v = v
 decided_visitors port (Reads codes mode) now v = v
 decided_visitors port Begins now v = v
+decided_visitors port (Sent codes packets) now v = v
 decided_visitors port (Lost records) now v = counted_at port (losing records) v
 decided_visitors port Cut now v = counted_at port cutting v
 
@@ -71,6 +72,7 @@ decided_notes port (Refused refusal) address v =
 decided_notes port (NoStation codes) address v = visit.NoStation port address codes ∷ []
 decided_notes port (Reads codes mode) address v = visit.Reads port address codes mode ∷ []
 decided_notes port Begins address v = visit.Begins port address ∷ []
+decided_notes port (Sent codes packets) address v = visit.Packets port address codes packets ∷ []
 decided_notes port (Lost records) address v = []
 decided_notes port Cut address v =
     if is_uncut (find (is_at port) v.present) then visit.Cut port address ∷ [] else []

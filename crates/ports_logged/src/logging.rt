@@ -138,6 +138,12 @@ fn decide<J: Journal>(
             mode,
         }),
         Decision::Begins => journal.note(Visit::Begins { port, address }),
+        Decision::Sent(codes, packets) => journal.note(Visit::Packets {
+            port,
+            address,
+            codes,
+            packets,
+        }),
         Decision::Lost(records) => visitors.count(port, Traffic::records_lost(records)),
         Decision::Cut => cut(visitors, journal, port, address),
     }

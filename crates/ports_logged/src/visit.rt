@@ -51,6 +51,13 @@ pub enum Visit {
         port: u64,
         address: Ipv4Addr,
     },
+    /// A client whose port is shut next was sent so many packets of this station.
+    Packets {
+        port: u64,
+        address: Ipv4Addr,
+        codes: AskedCodes,
+        packets: u64,
+    },
     /// A new configuration cut a client, for the first time.
     Cut {
         port: u64,
@@ -172,7 +179,7 @@ fn put_end<W: Write>(f: &mut Formatter<W>, lost: u64, is_cut: bool) -> fmt::Resu
 
 impl Display for Visit {
     /// As `open 17 10.0.0.7`, `away 10.0.0.7 max_connections`, `refused 17 10.0.0.7 STATION GE WLF`,
-    /// `reads 17 10.0.0.7 GE APE DATA`, `cut 17 10.0.0.7`, `close 17 10.0.0.7 bytes 52000`,
+    /// `reads 17 10.0.0.7 GE APE DATA`, `sent 17 10.0.0.7 GE APE packets 100`, `cut 17 10.0.0.7`, `close 17 10.0.0.7 bytes 52000`,
     /// `close 17 10.0.0.7 bytes 52000 lost 12 cut` for one that lost records and was cut, `feed 3 10.0.0.2`,
     /// `feed 3 refused 6 Length, first at record 17`, `feed 3 refused GE WLF, an unknown station, first at record 2` and
     /// `feed 3 over 10.0.0.2 records 120 refused 2`.
@@ -202,6 +209,15 @@ impl Display for Visit {
                 write!(f, "reads {port} {address} {codes} {mode}")
             }
             Visit::Begins { port, address } => write!(f, "begins {port} {address}"),
+            Visit::Packets {
+                port,
+                address,
+                codes,
+                packets,
+            } => {
+                let codes = ShownAsked(*codes);
+                write!(f, "sent {port} {address} {codes} packets {packets}")
+            }
             Visit::Cut { port, address } => write!(f, "cut {port} {address}"),
             Visit::Close {
                 port,

@@ -88,7 +88,7 @@ mode-others (Multi n) i cursor j apart = passed-others n.choices i cursor j apar
 pub pass-same : (a n : SessionValue) (i : ℕ) (cursor : Cursor) → n ≡ record a { mode = passed_in a.mode i cursor }
     → but_for_cursors n ≡ but_for_cursors a
 pass-same a n i cursor made =
-    ap but_for_cursors made ∙ ap (λ m. record a { mode = m; looked = None; lost = 0 }) (same-mode a.mode i cursor)
+    ap but_for_cursors made ∙ ap (λ m. record a { mode = m; looked = None; lost = 0; packets = [] }) (same-mode a.mode i cursor)
 
 pub pass-here : (a n : SessionValue) (i : ℕ) (cursor : Cursor) → n ≡ record a { mode = passed_in a.mode i cursor }
     → (c : Choice) → slice_get (chosen_of a.mode) i ≡ Some c
@@ -108,8 +108,6 @@ pass-length a n i cursor made = ap (λ (s : SessionValue). length (chosen_of s.m
 pub pass-looked : (a n : SessionValue) (i : ℕ) (cursor : Cursor) → n ≡ record a { mode = passed_in a.mode i cursor }
     → n.looked ≡ a.looked
 pass-looked a n i cursor made = ap (λ (s : SessionValue). s.looked) made
-
-pub ruleset pass_lemmas = (pass-same, pass-here, pass-others, pass-length, pass-looked)
 
 -- ---- sessions that stay in their transfer
 

@@ -31,8 +31,9 @@ use Rattle.session_state.specs.Sessions.{SessionValue, client_in, session_view, 
 use Rattle.session_state.proofs.CursorLemmas.{change-elsewhere}
 
 -- a session that negotiates while nothing waits
-abbrev pub reading : Seen → ModeValue → Line → List ℕ → Option ℕ → ℕ → Option News → SessionValue
-reading places mode l u looked lost news = record {
+abbrev pub reading : Seen → ModeValue → Line → List ℕ → Option ℕ → ℕ → List ℕ → Option News
+    → SessionValue
+reading places mode l u looked lost packets news = record {
   places = places;
   mode = mode;
   state = Negotiating;
@@ -41,11 +42,12 @@ reading places mode l u looked lost news = record {
   waiting = [];
   looked = looked;
   lost = lost;
+  packets = packets;
   news = news;
 }
 
 is_reading : (a : SessionValue) → a.state ≡ Negotiating → a.waiting ≡ []
-    → a ≡ reading a.places a.mode a.open_line a.unread a.looked a.lost a.news
+    → a ≡ reading a.places a.mode a.open_line a.unread a.looked a.lost a.packets a.news
 is_reading a state none = ap (λ t. record a { state = t }) state
     ∙ ap (λ w. record a { state = Negotiating; waiting = w }) none
 
@@ -73,14 +75,14 @@ leaves config h a r state none e = ap (client_in config h) e
 
 -- a session in which a change was made
 change-follows : (config : Config) (h : List Arrival) (places : Seen) (mode new : ModeValue) (l : Line) (u : List ℕ)
-    (looked : Option ℕ) (lost : ℕ) (news : Option News) (change : Change)
-    → client_in config h (after_change (record (reading places mode l u looked lost news) { mode = new }) change)
-    ≡ follow (session_view config (reading places mode l u looked lost news)) h
-    (client_in config h (reading places mode l u looked lost news))
+    (looked : Option ℕ) (lost : ℕ) (packets : List ℕ) (news : Option News) (change : Change)
+    → client_in config h (after_change (record (reading places mode l u looked lost packets news) { mode = new }) change)
+    ≡ follow (session_view config (reading places mode l u looked lost packets news)) h
+    (client_in config h (reading places mode l u looked lost packets news))
     (negotiated_in config mode) (outcome_after change (negotiated_in config new))
-change-follows config h places mode new l u looked lost news Done = refl
-change-follows config h places mode new l u looked lost news Refused = refl
-change-follows config h places mode new l u looked lost news Starts = refl
+change-follows config h places mode new l u looked lost packets news Done = refl
+change-follows config h places mode new l u looked lost packets news Refused = refl
+change-follows config h places mode new l u looked lost packets news Starts = refl
 
 pub changes : (config : Config) (h : List Arrival) (a r : SessionValue) (mode : ModeValue) (change : Change)
     (outcome : Outcome) → a.state ≡ Negotiating → a.waiting ≡ [] → r ≡ after_change (record a { mode = mode }) change
@@ -91,7 +93,7 @@ changes config h a r mode change outcome state none e same =
     ap (client_in config h) e
     ∙ ap (λ (x : SessionValue). client_in config h (after_change (record x { mode = mode }) change))
     (is_reading a state none)
-    ∙ change-follows config h a.places a.mode mode a.open_line a.unread a.looked a.lost a.news change
+    ∙ change-follows config h a.places a.mode mode a.open_line a.unread a.looked a.lost a.packets a.news change
     ∙ ap (λ (x : SessionValue). follow (session_view config x) h (client_in config h x) (negotiated_in config a.mode)
     (outcome_after change (negotiated_in config mode))) (sym (is_reading a state none))
     ∙ ap (follow (session_view config a) h (client_in config h a) (negotiated_in config a.mode)) same
@@ -143,7 +145,7 @@ pub reads_byte : (config : Config) (h : List Arrival) (a n r : SessionValue) (in
     → client_in config h r ≡ read_byte (session_view config a) h b (client_in config h a)
 reads_byte config h a n r instruction b state none line answers same =
     let a_is = is_reading a state none in
-    let n_is : n ≡ reading a.places a.mode (open_after a.open_line (b ∷ [])) a.unread a.looked a.lost a.news
+    let n_is : n ≡ reading a.places a.mode (open_after a.open_line (b ∷ [])) a.unread a.looked a.lost a.packets a.news
     = line
     ∙ ap (λ (x : SessionValue). record x { open_line = open_after a.open_line (b ∷ []) }) a_is in
     answers
@@ -151,7 +153,7 @@ reads_byte config h a n r instruction b state none line answers same =
     (outcome_by config (session_view config x) (negotiated_in config x.mode) instruction)) n_is
     ∙ ap
     (follow (session_view config a) h
-    (client_in config h (reading a.places a.mode (open_after a.open_line (b ∷ [])) a.unread a.looked a.lost a.news))
+    (client_in config h (reading a.places a.mode (open_after a.open_line (b ∷ [])) a.unread a.looked a.lost a.packets a.news))
     (negotiated_in config a.mode)) (sym (same (negotiated_in config a.mode)))
     ∙ sym (read_byte-lines (session_view config a) h a.open_line (negotiated_in config a.mode) a.unread b)
     ∙ ap (λ (x : SessionValue). read_byte (session_view config a) h b (client_in config h x)) (sym a_is)

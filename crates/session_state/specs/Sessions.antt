@@ -1,5 +1,5 @@
 -- A session, and the client that it is beside a configuration and a history.
-use Rattle.std.specs.Prelude.{◌≡◌, ℕ, ◌+◌, ◌-◌, ◌^◌, min, nat_lt, if◌then◌else◌, Bool, true, false, List, [], length, drop, map}
+use Rattle.std.specs.Prelude.{◌≡◌, ℕ, ◌+◌, ◌-◌, ◌^◌, ◌&&◌, min, nat_lt, slice_index, slice_set, if◌then◌else◌, Bool, true, false, List, [], length, drop, map}
 use Rattle.std.specs.Prelude.{filter_map, slice_get, Option, Some, None, All}
 use Rattle.std.specs.List.{before_first, position_or_len}
 use Rattle.protocol.specs.Lines.{Line, is_line_end, open_after}
@@ -23,6 +23,12 @@ use Rattle.session_state.specs.declared.news.News.{News}
 use Rattle.session_state.specs.Choices.{action_value, negotiated_in, chosen_of, request_in, all_at_start}
 use Rattle.session_state.specs.NewsValues.{news_on}
 
+-- so many more packets of the i-th request, at most 2^64 - 1
+abbrev pub sent_at : (i sent : ℕ) → List ℕ → List ℕ
+sent_at i sent packets =
+    if nat_lt 0 sent && nat_lt i (length packets)
+    then slice_set packets i (min (slice_index packets i + sent) (2 ^ 64 - 1)) else packets
+
 -- a client with the places of the stations that it sees in place of their settings
 pub record SessionValue : Type 0 where
   pub places : Seen
@@ -35,6 +41,8 @@ pub record SessionValue : Type 0 where
   pub looked : Option ℕ
   -- how many records its requests lost: they went out of their rings before a cursor came to them
   pub lost : ℕ
+  -- how many packets the request with each index was sent
+  pub packets : List ℕ
   -- what there is to tell of the negotiation
   pub news : Option News
 
@@ -99,9 +107,9 @@ with_line made s (Some line) = record s { state = Listing (made + 1); waiting = 
 abbrev pub line_made : Config → ℕ → SessionValue → SessionValue
 line_made config made s = with_line made s (slice_get (listing (session_view config s)) made)
 
--- the session but for how far its requests have come, and for what they lost
+-- the session but for how far its requests have come, and for what they lost and were sent
 abbrev pub but_for_cursors : SessionValue → SessionValue
-but_for_cursors s = record s { mode = all_at_start s.mode; looked = None; lost = 0 }
+but_for_cursors s = record s { mode = all_at_start s.mode; looked = None; lost = 0; packets = [] }
 
 -- a count of lost records and so many more, at most 2^64 - 1
 abbrev pub lost_with : (lost records : ℕ) → ℕ

@@ -1,5 +1,6 @@
 //! What is asked of a station, if anything, as it is kept.
 ghost use Rattle.std.specs.Prelude.{◌≡◌, is_some, not};
+ghost use Rattle.session_state.specs.KeptActions.{begin_of, end_of};
 
 use sl_lines::Action;
 use sl_packet::Seq;
@@ -95,6 +96,32 @@ impl KeptAction {
                 begin,
                 last: Some(last),
             }),
+        }
+    }
+
+    /// The moment before which no wanted record ends, if one is given.
+    pub fn begin(&self) -> Option<Tick>
+        ensures { result ≡ begin_of self.now }
+    {
+        match self.case {
+            Case::Nothing => None,
+            Case::Data { begin, .. } => begin,
+            Case::Fetch { begin, .. } => begin,
+            Case::From { begin } => begin,
+            Case::Between { begin, .. } => begin,
+        }
+    }
+
+    /// The moment after which no wanted record starts: the end of TIME, if it has one.
+    pub fn end(&self) -> Option<Tick>
+        ensures { result ≡ end_of self.now }
+    {
+        match self.case {
+            Case::Nothing => None,
+            Case::Data { .. } => None,
+            Case::Fetch { .. } => None,
+            Case::From { .. } => None,
+            Case::Between { last, .. } => Some(last),
         }
     }
 

@@ -33,6 +33,9 @@ const INBOX: usize = 1024;
 /// twice the inbox, bytes are moved to its front only after as many were read.
 const BUFFER: usize = 2048;
 
+/// How many stations a client can name, each of which may be a request.
+const REQUESTS: usize = 255;
+
 /// What a session is in the middle of.
 #[derive(Clone, Copy)]
 pub enum State {
@@ -70,6 +73,8 @@ pub struct Session {
     sent: usize,
     looked: Option<u64>,
     lost: u64,
+    /// How many packets the request with each index was sent.
+    packets: Vec<u64>,
     news: Option<News>,
 }
 
@@ -88,6 +93,7 @@ impl Model for Session {
       waiting = drop s.sent s.waiting;
       looked = s.looked;
       lost = s.lost;
+      packets = s.packets.items;
       news = s.news;
     } };
 
@@ -118,6 +124,8 @@ impl Session {
         ensures news { IfOk result (λ s. s.news ≡ None) }
     {
         let mode = Negotiation::new(alloc, places_of(&view))?;
+        let mut packets = Vec::with_capacity(alloc, REQUESTS)?;
+        packets.resize(REQUESTS, 0)?;
         Ok(Session {
             view,
             mode,
@@ -129,6 +137,7 @@ impl Session {
             sent: 0,
             looked: None,
             lost: 0,
+            packets,
             news: None,
         })
     }
@@ -224,10 +233,10 @@ impl Session {
     ghost use Rattle.protocol.specs.Catalog.{Config as ProtocolConfig, listing};
     ghost use Rattle.protocol.specs.Packet.{packet};
     ghost use Rattle.session_state.specs.NamedValues.{Choice as ChoiceValue, entry_of};
-    ghost use Rattle.session_state.specs.Choices.{chosen_of, kept_in};
+    ghost use Rattle.session_state.specs.Choices.{chosen_of, kept_in, passed_in};
     ghost use Rattle.session_state.specs.Sessions.{client_in, session_view, line_made, is_listing, HasPlaces};
     ghost use Rattle.session_state.specs.Sessions.{HasFirsts, Comes, KeepsTransfer, but_for_cursors, never_starts};
-    ghost use Rattle.session_state.specs.Sessions.{lost_with};
+    ghost use Rattle.session_state.specs.Sessions.{lost_with, sent_at};
     ghost use Rattle.session_state.specs.NewsValues.{news_on, news_received, news_taken};
     ghost use Rattle.session_state.specs.declared.news.News.TheVariants.{Begins};
     ghost use Rattle.session_state.specs.declared.session.State.TheVariants.{Negotiating, Listing, Starting, Transfer};
@@ -412,9 +421,9 @@ impl Session {
         self.mode.begin_at(i, first);
     }
 
-    /// Keeps how far the transfer has come in the ring of the i-th named station.
-    #[tactic(auto, using(crate::proofs::CursorLemmas::pass_lemmas))]
-    pub fn move_cursor(&mut self, i: usize, cursor: Cursor)
+    /// Keeps how far the transfer has come in the ring of the i-th named station, and counts the packets that it was sent
+    /// on that way.
+    pub fn move_cursor(&mut self, i: usize, cursor: Cursor, sent: usize)
         requires { i < length (chosen_of self.old.mode) }
         ensures same { but_for_cursors self.new ≡ but_for_cursors self.old }
         ensures here { (c : ChoiceValue) → slice_get (chosen_of self.old.mode) i ≡ Some c →
@@ -423,9 +432,39 @@ impl Session {
             → slice_get (chosen_of self.new.mode) j ≡ slice_get (chosen_of self.old.mode) j }
         ensures count { length (chosen_of self.new.mode) ≡ length (chosen_of self.old.mode) }
         ensures looked { self.new.looked ≡ self.old.looked }
+        ensures packets { self.new.packets ≡ sent_at i sent self.old.packets }
+    {
+        self.put_cursor(i, cursor);
+        self.count_packets(i, sent);
+    }
+
+    /// How far the transfer has come in the ring of the i-th named station.
+    #[inline(always)]
+    fn put_cursor(&mut self, i: usize, cursor: Cursor)
+        requires { i < length (chosen_of self.old.mode) }
+        ensures { self.new ≡ record self.old { mode = passed_in self.old.mode i cursor } }
     {
         let _ = &self.state;
         self.mode.move_cursor(i, cursor);
+    }
+
+    /// The i-th request was sent so many packets.
+    #[inline(always)]
+    fn count_packets(&mut self, i: usize, sent: usize)
+        ensures { self.new ≡ record self.old { packets = sent_at i sent self.old.packets } }
+    {
+        let _ = &self.state;
+        if sent > 0 && i < self.packets.len() {
+            self.packets[i] = self.packets[i].saturating_add(sent as u64);
+        }
+    }
+
+    /// How many packets the request with each index was sent, 0 to 2^64 - 1, where the count stays.
+    pub fn packets(&self) -> &[u64]
+        ensures { result.now ≡ self.now.packets }
+    {
+        let _ = &self.state;
+        self.packets.as_slice()
     }
 
     /// Keeps that all requests have looked at their rings since so many records had arrived.

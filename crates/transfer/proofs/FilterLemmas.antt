@@ -8,20 +8,22 @@ use Rattle.station_ring.specs.declared.held.Held.{Held}
 use Rattle.station_ring.specs.declared.held.Stream.{Stream}
 use Rattle.station_ring.specs.declared.held.Summary.{Summary}
 use Rattle.station_ring.specs.Briefs.{Tells, stream_of}
+use Rattle.sl_lines.specs.declared.actions.Action.{Action}
 use Rattle.sl_lines.specs.declared.actions.Action.TheVariants.{Data, Fetch, Time}
+use Rattle.session_state.specs.KeptActions.{begin_of, end_of}
 use Rattle.session_state.specs.NamedValues.{Choice}
 use Rattle.transfer.specs.declared.filters.Filter.{Filter}
 use Rattle.transfer.specs.declared.filters.Sight.TheVariants.{AfterEnd as SeenAfterEnd, Unwanted as SeenUnwanted, Open}
 use Rattle.transfer.specs.declared.wanting.Found.{Found}
 use Rattle.transfer.specs.declared.wanting.Found.TheVariants.{AfterEnd, Unwanted}
 use Rattle.transfer.specs.Wanting.{facts_of, is_in_window_of, wants_held}
-use Rattle.transfer.specs.Cursors.{is_after_end}
-use Rattle.transfer.specs.Filters.{IsFilter, IsSight, IsWindow, is_early, is_late}
+use Rattle.transfer.specs.Cursors.{is_after_end, is_late}
+use Rattle.transfer.specs.Filters.{IsFilter, IsSight, IsWindow, is_early}
 use Rattle.transfer.specs.Founds.{found_of}
 
 -- ---- windows
 
-pub window-none : IsWindow (record { begin = None; last = None }) None
+window-none : IsWindow (record { begin = None; last = None }) None
 window-none = record {
   after = λ x. refl;
   late = λ x e. refl;
@@ -33,7 +35,7 @@ outside : (begin : Option ℤ) (x : Held) → is_early begin x.summary.stop ≡ 
 outside None x e = absurd cc
 outside (Some begin) x e = rw e
 
-pub window-data : (number : Option ℕ) (begin : Option ℤ)
+window-data : (number : Option ℕ) (begin : Option ℤ)
     → IsWindow (record { begin = begin; last = None }) (Some (Data number begin))
 window-data number begin = record {
   after = λ x. refl;
@@ -41,7 +43,7 @@ window-data number begin = record {
   early = λ x e. outside begin x e;
 }
 
-pub window-fetch : (number : Option ℕ) (begin : Option ℤ)
+window-fetch : (number : Option ℕ) (begin : Option ℤ)
     → IsWindow (record { begin = begin; last = None }) (Some (Fetch number begin))
 window-fetch number begin = record {
   after = λ x. refl;
@@ -52,10 +54,6 @@ window-fetch number begin = record {
 none-late : (b : Bool) → (b && false) ≡ false
 none-late true = refl
 none-late false = refl
-
-after-last : (begin last : Option ℤ) (x : Held) → is_after_end (Some (Time begin last)) x ≡ is_late last x.summary.start
-after-last begin None x = refl
-after-last begin (Some last) x = refl
 
 outside-late : (begin last : Option ℤ) (x : Held) → is_late last x.summary.start ≡ true
     → is_in_window_of (Some (Time begin last)) (facts_of x.summary) ≡ false
@@ -68,14 +66,24 @@ outside-early : (begin last : Option ℤ) (x : Held) → is_early begin x.summar
 outside-early None last x e = absurd cc
 outside-early (Some begin) last x e = rw e
 
-pub window-time : (begin last : Option ℤ) → IsWindow (record { begin = begin; last = last }) (Some (Time begin last))
+window-time : (begin last : Option ℤ) → IsWindow (record { begin = begin; last = last }) (Some (Time begin last))
 window-time begin last = record {
-  after = λ x. after-last begin last x;
+  after = λ x. refl;
   late = λ x e. outside-late begin last x e;
   early = λ x e. outside-early begin last x e;
 }
 
-pub ruleset window_lemmas = (window-none, window-data, window-fetch, window-time)
+window-at : (a : Option Action) → IsWindow (record { begin = begin_of a; last = end_of a }) a
+window-at None = window-none
+window-at (Some (Data number begin)) = window-data number begin
+window-at (Some (Fetch number begin)) = window-fetch number begin
+window-at (Some (Time begin last)) = window-time begin last
+
+pub window-of : (begin last : Option ℤ) (a : Option Action) → begin ≡ begin_of a → last ≡ end_of a
+    → IsWindow (record { begin = begin; last = last }) a
+window-of begin last a begins ends = rw begins (rw ends (window-at a))
+
+pub ruleset window_lemmas = (window-of)
 
 -- ---- what is seen
 

@@ -1,6 +1,6 @@
 -- How far the requests of a transfer have come in the rings of their stations. A cursor is a place before which a
 -- request wants nothing more. SeedLink 3, DATA, FETCH and TIME. Left out: how a cursor is moved.
-use Rattle.std.specs.Prelude.{◌≡◌, ◌≢◌, ℕ, suc, zero, ◌+◌, ◌-◌, ◌<◌, ◌≤◌, Bool, true, false, int_lt, if◌then◌else◌, is_some, List, []}
+use Rattle.std.specs.Prelude.{◌≡◌, ◌≢◌, ℕ, ℤ, suc, zero, ◌+◌, ◌-◌, ◌<◌, ◌≤◌, Bool, true, false, int_lt, if◌then◌else◌, is_some, List, []}
 use Rattle.std.specs.Prelude.{◌∷◌}
 use Rattle.std.specs.Prelude.{Option, Some, None, option_map, slice_get}
 use Rattle.station_ring.specs.declared.held.Held.{Held}
@@ -8,6 +8,7 @@ use Rattle.station_ring.specs.Rings.{RingValue, IsRing, first_place, held_at}
 use Rattle.station_ring.specs.HeldRecords.{RingsValue, IsBefore, place_from}
 use Rattle.sl_lines.specs.declared.actions.Action.{Action}
 use Rattle.sl_lines.specs.declared.actions.Action.TheVariants.{Data, Fetch, Time}
+use Rattle.session_state.specs.KeptActions.{end_of}
 use Rattle.session_state.specs.NamedValues.{Choice, ahead_of}
 use Rattle.session_state.specs.declared.choices.Cursor.{Cursor}
 use Rattle.session_state.specs.declared.choices.Entry.{Entry}
@@ -17,13 +18,14 @@ use Rattle.session_state.specs.Choices.{chosen_of}
 use Rattle.session_state.specs.Sessions.{SessionValue, lost_with}
 use Rattle.transfer.specs.Wanting.{wants_held}
 
+-- after a moment, where one is given
+abbrev pub is_late : Option ℤ → (start : ℤ) → Bool
+is_late None start = false
+is_late (Some last) start = int_lt last start
+
 -- The record starts after the end of TIME, where one is asked.
 abbrev pub is_after_end : Option Action → Held → Bool
-is_after_end None x = false
-is_after_end (Some (Data number begin)) x = false
-is_after_end (Some (Fetch number begin)) x = false
-is_after_end (Some (Time begin None)) x = false
-is_after_end (Some (Time begin (Some last))) x = int_lt last x.summary.start
+is_after_end action x = is_late (end_of action) x.summary.start
 
 -- ---- where a request begins
 

@@ -17,13 +17,8 @@ use Rattle.transfer.specs.declared.filters.Sight.{Sight}
 use Rattle.transfer.specs.declared.filters.Sight.TheVariants.{AfterEnd as SeenAfterEnd, Unwanted as SeenUnwanted}
 use Rattle.transfer.specs.declared.wanting.Found.TheVariants.{AfterEnd, Unwanted}
 use Rattle.transfer.specs.Wanting.{facts_of, is_in_window_of}
-use Rattle.transfer.specs.Cursors.{is_after_end}
+use Rattle.transfer.specs.Cursors.{is_after_end, is_late}
 use Rattle.transfer.specs.Founds.{found_of}
-
--- after a moment, where one is given
-abbrev pub is_late : Option ℤ → (start : ℤ) → Bool
-is_late None start = false
-is_late (Some last) start = int_lt last start
 
 -- before a moment, where one is given
 abbrev pub is_early : Option ℤ → (stop : ℤ) → Bool

@@ -111,30 +111,10 @@ fn is_over(entry: &Entry, rings: &Rings) -> bool
 {
     match entry.action.to_option() {
         None => true,
-        Some(
-            Action::Data {
-                number: _number,
-                begin: _begin,
-            },
-        ) => false,
-        Some(
-            Action::Fetch {
-                number: _number,
-                begin: _begin,
-            },
-        ) => true,
-        Some(
-            Action::Time {
-                begin: _begin,
-                last: None,
-            },
-        ) => false,
-        Some(
-            Action::Time {
-                begin: _begin,
-                last: Some(_last),
-            },
-        ) => is_past_its_end(entry, rings),
+        Some(Action::Data { .. }) => false,
+        Some(Action::Fetch { .. }) => true,
+        Some(Action::Time { last: None, .. }) => false,
+        Some(Action::Time { last: Some(_), .. }) => is_past_its_end(entry, rings),
     }
 }
 
@@ -232,7 +212,7 @@ fn pass_sent(session: &mut Session, found: Candidate<'_>, next: u64)
         → HasPassedAll rings next session.old → HasPassedAll rings next session.new }
 {
     let cursor = cursor_after(session, found, next);
-    session.move_cursor(found.index, cursor);
+    session.move_cursor(found.index, cursor, 1);
 }
 
 /// A transfer goes on after a held record, which its request passes. It answers the number of the record's packet.

@@ -10,9 +10,10 @@ ghost use Rattle.session_state.specs.NamedValues.{Choice, entry_of};
 ghost use Rattle.station_ring.specs.declared.held.Held.{Held as HeldValue};
 ghost use Rattle.station_ring.specs.declared.held.Stream.{Stream as StreamValue};
 ghost use Rattle.station_ring.specs.Briefs.{Tells, stream_of};
-ghost use Rattle.transfer.specs.Filters.{IsFilter, IsSight, IsWindow, RefusesAll, is_early, is_late};
+ghost use Rattle.transfer.specs.Filters.{IsFilter, IsSight, IsWindow, RefusesAll, is_early};
 
-use session_state::{Action, Entry, Session};
+use crate::wanting::is_late;
+use session_state::{Entry, Session};
 use sl_time::Tick;
 use station_ring::{Brief, Stream, Summary};
 
@@ -33,24 +34,9 @@ pub(crate) struct TimeWindow {
 fn window_of(entry: &Entry) -> TimeWindow
     ensures { IsWindow result entry.now.action }
 {
-    match entry.action.to_option() {
-        None => TimeWindow {
-            begin: None,
-            last: None,
-        },
-        Some(
-            Action::Data {
-                number: _number,
-                begin,
-            },
-        ) => TimeWindow { begin, last: None },
-        Some(
-            Action::Fetch {
-                number: _number,
-                begin,
-            },
-        ) => TimeWindow { begin, last: None },
-        Some(Action::Time { begin, last }) => TimeWindow { begin, last },
+    TimeWindow {
+        begin: entry.action.begin(),
+        last: entry.action.end(),
     }
 }
 
@@ -63,16 +49,6 @@ pub(crate) enum Sight {
     Unwanted,
     /// It may be wanted.
     Open,
-}
-
-/// Whether a record starts after a moment, if one is given.
-fn is_late(last: Option<Tick>, start: Tick) -> bool
-    ensures { result ≡ is_late last start }
-{
-    match last {
-        Some(last) => last.value() < start.value(),
-        None => false,
-    }
 }
 
 /// Whether a record ends before a moment, if one is given.

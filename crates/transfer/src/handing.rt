@@ -88,7 +88,7 @@ pub fn choose_into(
     match found_next(session, rings, next) {
         Some(found) => {
             let run = hand_run(session, rings, found, most, out);
-            pass_run(session, rings, run.last);
+            pass_run(session, rings, run.last, run.count);
             Handing {
                 count: run.count,
                 chosen: Chosen::Packet,

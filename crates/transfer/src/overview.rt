@@ -165,7 +165,7 @@ fn catch_up(session: &mut Session, rings: &Rings, next: u64)
     }
     if let Some(index) = alone(session, rings) {
         let cursor = cursor_of(session, index, rings, next);
-        session.move_cursor(index, cursor);
+        session.move_cursor(index, cursor, 0);
         session.keep_look(rings.arrivals());
     }
 }
@@ -233,7 +233,7 @@ fn rest_all(session: &mut Session, rings: &Rings, next: u64) -> Option<First>
             Overview::Fresh(first) => return first,
             Overview::Stale(index, before) => {
                 let cursor = cursor_of(session, index, rings, next);
-                session.move_cursor(index, cursor);
+                session.move_cursor(index, cursor, 0);
                 best = earlier(before, index, cursor.ahead());
                 from = index + 1;
             }

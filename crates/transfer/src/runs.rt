@@ -194,10 +194,10 @@ pub(crate) fn hand_run<'a>(
     }
 }
 
-/// A transfer goes on after the last record of a run, and its request passes those records and what it doesn't want
-/// after them.
+/// A transfer goes on after the last record of a run, and its request passes those records, whose count is given, and
+/// what it doesn't want after them.
 #[inline(always)]
-pub(crate) fn pass_run(session: &mut Session, rings: &Rings, last: Candidate<'_>)
+pub(crate) fn pass_run(session: &mut Session, rings: &Rings, last: Candidate<'_>, count: usize)
     requires there { HoldsThere rings.now last.ring.now last.place last.held.now }
     requires index { last.index < length (chosen_of session.old.mode) }
     ensures session { but_for_cursors session.new ≡ but_for_cursors
@@ -211,5 +211,5 @@ pub(crate) fn pass_run(session: &mut Session, rings: &Rings, last: Candidate<'_>
     let next = last.held.stamp + 1;
     session.choose_from(next);
     let cursor = cursor_after(session, last, next);
-    session.move_cursor(last.index, cursor);
+    session.move_cursor(last.index, cursor, count);
 }

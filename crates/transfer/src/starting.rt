@@ -148,7 +148,7 @@ fn place_cursors(session: &mut Session, rings: &Rings)
     let count = session.choices().len();
     for i in 0..count {
         let cursor = cursor_of(session.choice(i), rings);
-        session.move_cursor(i, cursor);
+        session.move_cursor(i, cursor, 0);
     }
 }
 

@@ -10,7 +10,7 @@ ghost use Rattle.station_ring.specs.declared.held.Held.{Held as HeldValue};
 ghost use Rattle.station_ring.specs.Briefs.{stream_of};
 ghost use Rattle.station_ring.specs.Rings.{held_at};
 ghost use Rattle.transfer.specs.Wanting.{facts_of, is_in_window_of, wants_held};
-ghost use Rattle.transfer.specs.Cursors.{is_after_end, HasPassed};
+ghost use Rattle.transfer.specs.Cursors.{is_after_end, is_late, HasPassed};
 ghost use Rattle.transfer.specs.Founds.{found_of};
 
 use session_state::{Action, Cursor, Entry, Session};
@@ -43,18 +43,8 @@ fn is_in_window(entry: &Entry, summary: &Summary) -> bool
 {
     match entry.action.to_option() {
         None => false,
-        Some(
-            Action::Data {
-                number: _number,
-                begin,
-            },
-        ) => ends_from(begin, summary),
-        Some(
-            Action::Fetch {
-                number: _number,
-                begin,
-            },
-        ) => ends_from(begin, summary),
+        Some(Action::Data { begin, .. }) => ends_from(begin, summary),
+        Some(Action::Fetch { begin, .. }) => ends_from(begin, summary),
         Some(Action::Time { begin, last }) => ends_from(begin, summary) && starts_by(last, summary),
     }
 }
@@ -123,37 +113,21 @@ pub struct Candidate<'a> {
     pub held: &'a Held,
 }
 
+/// Whether a record starts after a moment, if one is given.
+pub(crate) fn is_late(last: Option<Tick>, start: Tick) -> bool
+    ensures { result ≡ is_late last start }
+{
+    match last {
+        Some(last) => last.value() < start.value(),
+        None => false,
+    }
+}
+
 /// Whether a record starts after the end of TIME, where one is asked.
 fn is_after_end(entry: &Entry, summary: &Summary) -> bool
     ensures { (x : HeldValue) → x.summary ≡ summary.now → result ≡ is_after_end entry.now.action x }
 {
-    match entry.action.to_option() {
-        None => false,
-        Some(
-            Action::Data {
-                number: _number,
-                begin: _begin,
-            },
-        ) => false,
-        Some(
-            Action::Fetch {
-                number: _number,
-                begin: _begin,
-            },
-        ) => false,
-        Some(
-            Action::Time {
-                begin: _begin,
-                last: None,
-            },
-        ) => false,
-        Some(
-            Action::Time {
-                begin: _begin,
-                last: Some(last),
-            },
-        ) => last.value() < summary.start.value(),
-    }
+    is_late(entry.action.end(), summary.start)
 }
 
 /// What a request finds at a place of its ring.

@@ -16,6 +16,7 @@ loop-index-preserved g c =
     let inside : i < length xs = omega arith in
     let within : i ≤ length xs = omega (arith, inside) in
     let before : length (take i xs) ≡ i = length-take-le i xs within in
+    let reached : 0 + length (take i xs) ≡ i = omega (arith, before) in
     record {
       calls = c.tell_packets.ensures.calls ∙ c.loop-index.invariant.calls;
       failures = c.tell_packets.ensures.failures ∙ c.loop-index.invariant.failures;
@@ -26,5 +27,5 @@ loop-index-preserved g c =
           ∙ packets-more c.args.config.now c.args.port 0 (take i xs) e c.args.packets.now
           ∙ ap (λ (n : ℕ). all_packets_said c.args.config.now c.args.port 0 (take i xs) c.args.packets.now
           ++ packets_said c.args.config.now c.args.port e.station n)
-          (ap (λ (n : ℕ). slice_index_or c.args.packets.now n 0) before ∙ sym c.packets_at-count.ensures));
+          (ap (λ (n : ℕ). slice_index_or c.args.packets.now n 0) reached ∙ sym c.packets_at-count.ensures));
     }

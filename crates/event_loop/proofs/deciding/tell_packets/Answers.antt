@@ -1,4 +1,4 @@
-use Rattle.std.proofs.Common.{subst}
+use Rattle.std.proofs.Common.{arith, subst}
 use Rattle.ports.specs.Decisions.{Decides}
 use Rattle.event_loop.proofs.DecidedLemmas.{packets-told}
 use Rattle.event_loop.proofs.deciding.tell_packets.Goals as goal
