@@ -1,7 +1,5 @@
 -- Decisions that are said.
-use Rattle.std.proofs.Common.{◌≡◌, ℕ, ◌+◌, ◌<◌, true, List, [], ◌∷◌, ◌++◌, arith, length, slice_index_or, Option, Some, None, refl, sym, ap, ap₂, subst, ◌∙◌, append_assoc}
-use Rattle.std.specs.Prelude.{if◌then◌else◌, nat_lt}
-use Rattle.std.proofs.lemmas.Bool.Decides.{nat_tests}
+use Rattle.std.proofs.Common.{◌≡◌, ℕ, List, [], ◌∷◌, ◌++◌, Option, Some, None, refl, sym, ap, ap₂, subst, ◌∙◌, append_assoc}
 use Rattle.std.proofs.lemmas.List.{append-nil}
 use Rattle.ports.specs.Decisions.{Decides}
 use Rattle.ports.specs.declared.decisions.Decision.{Decision}
@@ -9,9 +7,9 @@ use Rattle.server_core.specs.ServerValues.{ServerValue}
 use Rattle.event_loop.specs.declared.seat.Seat.{Seat}
 use Rattle.protocol.specs.Catalog.{Config}
 use Rattle.session_state.specs.declared.choices.Entry.{Entry}
-use Rattle.event_loop.specs.Decided.{all_packets_said, cut_of, cuts_in, packets_said}
+use Rattle.event_loop.specs.Decided.{cut_of, cuts_in}
 use Rattle.ports.specs.declared.decisions.AskedCodes.{AskedCodes}
-use Rattle.ports.specs.declared.decisions.Decision.TheVariants.{Reads, Sent}
+use Rattle.ports.specs.declared.decisions.Decision.TheVariants.{Reads}
 use Rattle.ports.specs.declared.decisions.Mode.{Mode}
 use Rattle.sl_lines.specs.declared.actions.Action.{Action}
 use Rattle.event_loop.specs.Telling.{asked_said, mode_of, place_codes, request_said, requests_said}
@@ -49,32 +47,6 @@ requests-more config port [] e = append-nil (request_said config port e)
 requests-more config port (x ∷ xs) e =
     ap (λ l. request_said config port x ++ l) (requests-more config port xs e)
     ∙ sym (append_assoc (request_said config port x) (requests_said config port xs) (request_said config port e))
-
--- what is said of a station of which a client was sent packets
-pub packets-told : (config : Config) (port place packets : ℕ) (codes : AskedCodes) → codes ≡ place_codes config place
-    → 0 < packets → (port, Sent codes packets) ∷ [] ≡ packets_said config port place packets
-packets-told config port place packets codes is some =
-    let yes : nat_lt 0 packets ≡ true = grind (arith, nat_tests, some) in
-    ap (λ (x : AskedCodes). (port, Sent x packets) ∷ []) is
-    ∙ sym (ap (λ b. if b then (port, Sent (place_codes config place) packets) ∷ [] else []) yes)
-
--- what is said of the packets of one request more
-pub packets-more : (config : Config) (port index : ℕ) (es : List Entry) (e : Entry) (packets : List ℕ)
-    → all_packets_said config port index (es ++ e ∷ []) packets
-    ≡ all_packets_said config port index es packets
-    ++ packets_said config port e.station (slice_index_or packets (index + length es) 0)
-packets-more config port index [] e packets =
-    append-nil (packets_said config port e.station (slice_index_or packets index 0))
-    ∙ ap (λ n. packets_said config port e.station (slice_index_or packets n 0)) (omega arith)
-packets-more config port index (x ∷ xs) e packets =
-    ap (λ l. packets_said config port x.station (slice_index_or packets index 0) ++ l)
-    (packets-more config port (index + 1) xs e packets)
-    ∙ sym (append_assoc (packets_said config port x.station (slice_index_or packets index 0))
-    (all_packets_said config port (index + 1) xs packets)
-    (packets_said config port e.station (slice_index_or packets (index + 1 + length xs) 0)))
-    ∙ ap (λ n. (packets_said config port x.station (slice_index_or packets index 0)
-    ++ all_packets_said config port (index + 1) xs packets)
-    ++ packets_said config port e.station (slice_index_or packets n 0)) (omega arith)
 
 -- what is said of one seat more
 pub cuts-more : (server : ServerValue) (ss : List Seat) (s : Seat)

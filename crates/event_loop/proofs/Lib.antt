@@ -17,3 +17,4 @@ mod AwakeLemmas
 mod FewLemmas
 mod FillLemmas
 pub mod OfferingLemmas
+mod TrafficLemmas

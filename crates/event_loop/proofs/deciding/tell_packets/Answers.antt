@@ -1,6 +1,6 @@
 use Rattle.std.proofs.Common.{arith, subst}
 use Rattle.ports.specs.Decisions.{Decides}
-use Rattle.event_loop.proofs.DecidedLemmas.{packets-told}
+use Rattle.event_loop.proofs.TrafficLemmas.{packets-told}
 use Rattle.event_loop.proofs.deciding.tell_packets.Goals as goal
 
 pub returns-then-packets-gt0-clause-decides : goal.returns-then-packets-gt0-clause-decides
