@@ -18,3 +18,4 @@ mod PartLemmas
 mod ChangeLemmas
 mod GainLemmas
 mod GainLaw
+mod ValueLineLemmas

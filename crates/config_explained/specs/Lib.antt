@@ -25,3 +25,4 @@ pub mod NetworkTexts
 pub mod AllFaults
 pub mod Changes
 pub mod Users
+pub mod ValueLines

@@ -15,6 +15,7 @@ mod place;
 mod refusal;
 mod setting;
 mod setting_texts;
+mod value_line;
 mod values;
 // keys
 mod first_lines;
@@ -67,3 +68,4 @@ pub use setting_texts::{key_of, limit_of, wanted_of};
 pub use silence::{Silence, silences_of};
 pub use unknown::unknown_keys;
 pub use users::users_of;
+pub use value_line::line_of;

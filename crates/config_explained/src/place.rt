@@ -45,7 +45,7 @@ fn characters(text: &[u8]) -> usize
 }
 
 /// Where the last line of a text begins.
-fn start_of_line(text: &[u8]) -> usize
+pub(crate) fn start_of_line(text: &[u8]) -> usize
     ensures within { result ≤ length text.now }
     ensures begins { 0 < result → slice_index text.now (result - 1) ≡ 10 }
     ensures same_line { (k : ℕ) → result ≤ k → k < length text.now → slice_index text.now k ≢ 10 }

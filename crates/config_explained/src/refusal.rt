@@ -28,35 +28,44 @@ fn list_cause(fault: AccessFault) -> Option<&'static str> {
     }
 }
 
-/// A configuration that is refused: at which step, and what is found there.
+/// A configuration that is refused: at which step, what is found there, and on which line, if that is known.
 #[derive(Clone, Copy)]
 pub struct RefusedConfig<'e> {
     pub error: &'e ConfigError,
     pub finding: &'e ConfigFinding,
+    pub line: Option<u128>,
 }
 
 impl Display for RefusedConfig<'_> {
-    /// The lines that say which station and key it is, and what stands there, each with two spaces before it.
+    /// The lines that say which line, station and key it is, and what stands there, each with two spaces before it.
     fn fmt<W: Write>(&self, f: &mut Formatter<W>) -> fmt::Result {
         let error = self.error;
+        if let Some(line) = self.line {
+            writeln!(f, "  line: {line}")?;
+        }
         put_key(f, error.step, &error.network, &error.code)?;
         write!(f, "{}", self.finding)
     }
 }
 
-/// One of several faults of a configuration: what is found at its step.
+/// One of several faults of a configuration: what is found at its step, and on which line, if that is known.
 #[derive(Clone, Copy)]
 pub struct FaultLine<'e> {
     pub error: &'e ConfigError,
     pub finding: &'e ConfigFinding,
+    pub line: Option<u128>,
 }
 
 impl Display for FaultLine<'_> {
-    /// The line that names it, with its station, its key, what stands there and what is allowed.
+    /// The line that names it, with its line in the text, its station, its key, what stands there and what is allowed.
     fn fmt<W: Write>(&self, f: &mut Formatter<W>) -> fmt::Result {
         let error = self.error;
         let reason = error.fault.reason();
-        write!(f, "seedlinkd: {} {}", reason.number(), reason.name())?;
+        write!(f, "seedlinkd: ")?;
+        if let Some(line) = self.line {
+            write!(f, "line {line}: ")?;
+        }
+        write!(f, "{} {}", reason.number(), reason.name())?;
         put_station_words(f, error)?;
         if let Some(key) = key_of(error.step) {
             write!(f, ", {key}")?;

@@ -1,10 +1,19 @@
 //! All faults of a configuration that is refused.
 use crate::telling::tell_lines;
 use catalog::ConfigError;
-use config_explained::{ConfigFinding, FaultLine, faults_of, finding_of};
+use config_explained::{ConfigFinding, FaultLine, faults_of, finding_of, line_of};
+use std::alloc::Global;
 
 /// How many faults are named.
 const NAMED: usize = 64;
+
+/// The line of a text at which an error is, if it is told and there is memory to find it.
+pub(crate) fn line_if_any(alloc: Global, text: &[u8], error: &ConfigError) -> Option<u128> {
+    match line_of(alloc, text, error.step) {
+        Ok(line) => line,
+        Err(_) => None,
+    }
+}
 
 /// Names a fault, a line on the standard error.
 fn tell_fault(rt: &HostRuntime, text: &[u8], error: &ConfigError) {
@@ -15,6 +24,7 @@ fn tell_fault(rt: &HostRuntime, text: &[u8], error: &ConfigError) {
     let line = FaultLine {
         error,
         finding: &finding,
+        line: line_if_any(rt.alloc(), text, error),
     };
     if let Ok(line) = format!(in rt.alloc(); "{line}") {
         tell_lines(rt, line.as_bytes());

@@ -3,7 +3,7 @@ ghost use Rattle.std.specs.Prelude.{◌≡◌, IfOk, Ok};
 ghost use Rattle.toml.specs.Parse.{parse_document};
 ghost use Rattle.catalog.specs.Reading.{config_read};
 
-use crate::faults::tell_faults;
+use crate::faults::{line_if_any, tell_faults};
 use catalog::{ConfigError, ConfigFault};
 use config_explained::{
     ConfigFinding, ConfigText, RefusedConfig, RefusedText, cause_of, finding_of, limit_of,
@@ -89,6 +89,7 @@ fn explained<'a>(alloc: Global, path: &'a str, refused: RefusedText) -> Incident
     let found = RefusedConfig {
         error: &error,
         finding: &finding,
+        line: line_if_any(alloc, text.as_slice(), &error),
     };
     refused_for(&error)
         .at(Place::File(path))
