@@ -74,7 +74,7 @@ class Archives(kit.Test):
         self.instance("west-a", server, WANTS_FILE=self.wants("a.wants", CODES[:2]), ARCHIVE=archive)
         self.await_records("state/sds", range(2))
         second = self.instance("west-b", server, WANTS_FILE=self.wants("b.wants", CODES[1:3]), ARCHIVE=archive)
-        self.assert_ends(second.await_end(), 1, "seedlinkd: 44 File\n", "another reader adds records of one of these stations\n")
+        self.assert_ends(second.await_end(), 1, "seedlinkd: 44 File\n", "another reader adds records of ")
         self.await_records("state/sds", range(2))
 
     def test_an_instance_without_these_settings(self):

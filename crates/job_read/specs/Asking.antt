@@ -10,6 +10,7 @@ renewal_of is_first = if is_first then 3600000 else 60000
 abbrev pub left_after : (is_first : Bool) → (refused now : ℕ) → ℕ
 left_after is_first refused now = renewal_of is_first - (now - refused)
 
--- An archive, a state, another try or explanations are asked for.
-abbrev pub is_told : (has_archive has_state is_retried is_verbose : Bool) → Bool
-is_told has_archive has_state is_retried is_verbose = has_archive || has_state || is_retried || is_verbose
+-- An archive, a state, another try, no lines of packets or explanations are asked for.
+abbrev pub is_told : (has_archive has_state is_retried is_quiet is_verbose : Bool) → Bool
+is_told has_archive has_state is_retried is_quiet is_verbose =
+    has_archive || has_state || is_retried || is_quiet || is_verbose

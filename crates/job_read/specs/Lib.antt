@@ -1,4 +1,5 @@
 pub mod Asking
+pub mod Begins
 pub mod Endings
 pub mod Hearing
 pub mod KeepTimes

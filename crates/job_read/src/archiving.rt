@@ -13,8 +13,9 @@ use crate::unplaced::UnplacedCount;
 use continued_files::{ContinuedFiles, FileLength, Unnamed};
 use disk_files::{DiskFiles, FileFailure, FilePlace};
 use files::milliseconds;
-use incidents::{Detail, Incident, Place, Site};
+use incidents::{Detail, Failure, Incident, Place, Site};
 use job_base::{descriptor_limit, unopened};
+use protocol::reason::Reason;
 use reader_run::{RecordSink, SinkFault};
 use record_archive::{Archive, ArchiveFault, StationCodes, StationLocks, TopFault, lock_stations};
 use sl_io::WriteFault;
@@ -134,11 +135,13 @@ fn locks_at<'a>(
     }
 }
 
-/// Why nothing can be put below a folder.
+/// Why nothing can be put below a folder: at the lock of the station of which another reader adds records.
 pub fn unlocked<'a>(top: &'a str, fault: TopFault) -> Incident<'a> {
     match fault {
         TopFault::Unopened(reason) => unopened(top, reason),
-        TopFault::Locked => unopened(top, added_to_by_another()),
+        TopFault::Locked(path) => {
+            Failure::of(Reason::File).by_system(Place::Below(path), added_to_by_another())
+        }
     }
 }
 
@@ -146,7 +149,7 @@ pub fn unlocked<'a>(top: &'a str, fault: TopFault) -> Incident<'a> {
 fn added_to_by_another() -> io::Error {
     io::Error::new(
         io::ErrorKind::ResourceBusy,
-        "another reader adds records of one of these stations",
+        "another reader adds records of this station",
     )
 }
 

@@ -17,6 +17,9 @@ const HOUR: u64 = 3_600_000;
 /// The same of a server that is not the first of the list; and after how many of them it is told that nothing comes.
 const MINUTE: u64 = 60_000;
 
+/// The same of a server that owes something.
+const SOON: u64 = 10_000;
+
 /// How many milliseconds are left of a connection on which a want was refused at a moment.
 fn left_after(is_first: bool, refused: u64, now: u64) -> u64
     ensures { result ≡ left_after is_first refused now }
@@ -70,7 +73,8 @@ impl Renewal {
     }
 }
 
-/// Reads what comes at a connection until it is over. If nothing comes for a minute, that is told once.
+/// Reads what comes at a connection until it is over. If nothing comes for a minute, or for ten seconds from a server
+/// that owes something, that is told once.
 #[derive(Drop)]
 pub struct RenewedReader<'r> {
     inlet: &'r Inlet,
@@ -111,12 +115,20 @@ impl<'r> RenewedReader<'r> {
         if !self.is_told {
             return None;
         }
-        let left = MINUTE.saturating_sub(now.saturating_sub(begun));
+        let is_owed = self.patience.is_owed();
+        let limit = if is_owed { SOON } else { MINUTE };
+        let left = limit.saturating_sub(now.saturating_sub(begun));
         if left > 0 {
             return Some(left);
         }
         self.is_told = false;
-        let _ = eprintln!(self.rt; "seedlinkd: nothing has come for 60 s; waiting");
+        if is_owed {
+            let _ = eprintln!(self.rt;
+                "seedlinkd: the server owes an answer, and nothing has come for 10 s; waiting"
+            );
+        } else {
+            let _ = eprintln!(self.rt; "seedlinkd: nothing has come for 60 s; waiting");
+        }
         None
     }
 

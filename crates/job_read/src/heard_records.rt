@@ -1,7 +1,9 @@
-//! Records on their way to where they are put, of which it is told what a reader meets: a station that is refused, and
-//! a jump in the numbers of one.
+//! Records on their way to where they are put, of which it is told what a reader meets: a station that is refused, or
+//! that was not asked for, one that begins with another record than the one that was asked for, and a jump in its
+//! numbers.
 ghost use Rattle.std.specs.Prelude.{◌≡◌};
 
+use crate::begins::{Begins, is_of};
 use crate::hearing::Listener;
 use crate::lasting::Lasting;
 use crate::notices::{ErrorTeller, Notice, Teller};
@@ -22,6 +24,10 @@ pub struct HeardRecords<'r, 'a, 'w, P> {
     reading: &'r Reading<'a, 'w>,
     teller: ErrorTeller<'r>,
     listener: Option<Listener>,
+    /// The stations whose first packet is still to come.
+    begins: Begins,
+    /// Whether it was told, or is not to be, that a packet came of a station that no want names.
+    is_unasked_told: bool,
     /// How far the reading is.
     progress: Progress<'r>,
     /// Whether a packet came.
@@ -43,6 +49,8 @@ impl<'r, 'a, 'w, P> HeardRecords<'r, 'a, 'w, P> {
             reading,
             teller: ErrorTeller::new(rt),
             listener: None,
+            begins: Begins::none(rt.alloc()),
+            is_unasked_told: reading.is_archived,
             progress: Progress::new(rt, None, reading.is_measured),
             has_some: false,
         }
@@ -61,6 +69,13 @@ impl<'r, 'a, 'w, P> HeardRecords<'r, 'a, 'w, P> {
         ensures { self.new.inner ≡ self.old.inner }
     {
         self.listener = Some(listener);
+    }
+
+    /// It is told from now on which station begins with another number than the one that is asked for.
+    pub fn await_begins(&mut self, begins: Begins)
+        ensures { self.new.inner ≡ self.old.inner }
+    {
+        self.begins = begins;
     }
 
     /// Where they are put.
@@ -91,10 +106,31 @@ impl<'r, 'a, 'w, P> HeardRecords<'r, 'a, 'w, P> {
         }
     }
 
+    /// Tells once that a packet came of a station that no want names.
+    fn tell_unasked(&mut self, packet: &GivenPacket<'_>)
+        ensures { self.new.inner ≡ self.old.inner }
+    {
+        if self.is_unasked_told {
+            return;
+        }
+        let Some(header) = packet.header() else {
+            return;
+        };
+        let (network, station) = (header.network(), header.station());
+        let wants = &self.reading.wants;
+        if !wants.iter().any(|want| is_of(want, network, station)) {
+            self.is_unasked_told = true;
+            self.teller.tell(&Notice::Unasked { network, station });
+        }
+    }
+
     /// Tells what is met with a packet.
     fn tell_packet(&mut self, packet: &GivenPacket<'_>)
         ensures { self.new.inner ≡ self.old.inner }
     {
+        self.begins
+            .hear(&self.reading.wants, packet, &mut self.teller);
+        self.tell_unasked(packet);
         if let Some(listener) = &mut self.listener {
             listener.hear(self.rt, packet, &mut self.teller);
         }

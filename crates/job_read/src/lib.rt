@@ -5,6 +5,7 @@
 mod adding;
 mod archiving;
 mod asking;
+mod begins;
 mod connections;
 mod course;
 mod endings;

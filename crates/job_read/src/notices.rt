@@ -36,6 +36,18 @@ pub enum Notice<'a> {
     },
     /// So many records in all have no place in the archive.
     Unplaced(u64),
+    /// The first packet of a station has another number than the one that it is asked for from.
+    OtherBegin {
+        network: &'a [u8],
+        station: &'a [u8],
+        asked: Seq,
+        first: Seq,
+    },
+    /// A packet came of a station that no want names.
+    Unasked {
+        network: &'a [u8],
+        station: &'a [u8],
+    },
 }
 
 /// A text of bytes, if it is one.
@@ -134,6 +146,30 @@ impl Display for Notice<'_> {
             }
             Notice::Unplaced(count) => {
                 write!(line, "records without a place in the archive: {count}")
+            }
+            Notice::OtherBegin {
+                network,
+                station,
+                asked,
+                first,
+            } => {
+                let word = "not held";
+                let begin = JumpLine {
+                    word,
+                    network,
+                    station,
+                    last: asked,
+                    next: first,
+                };
+                write!(line, "{begin}")
+            }
+            Notice::Unasked { network, station } => {
+                write!(
+                    line,
+                    "not asked for {} {}",
+                    text_of(network),
+                    text_of(station)
+                )
             }
         }
     }

@@ -5,6 +5,7 @@ ghost use Rattle.job_read.specs.Asking.{is_told};
 use crate::adding::{WholeFile, mend_end, output_at};
 use crate::archiving::{archive_at, at_archive, unlocked};
 use crate::asking::Renewal;
+use crate::begins::Begins;
 use crate::connections::ServersInTurn;
 use crate::endings::{TransferFault, goes_on};
 use crate::following::follow_with;
@@ -59,6 +60,8 @@ pub struct Reading<'a, 'w> {
     is_verbose: bool,
     /// Whether it is told what is met.
     pub is_told: bool,
+    /// Whether records go to an archive, which says itself how many have no place there.
+    pub is_archived: bool,
     /// When wants that are refused are asked again.
     pub renewal: Renewal,
     /// When a server that is silent is left.
@@ -153,6 +156,9 @@ fn begun_after<P>(
     let tally = tally_after(alloc, &reading.wants, state)?;
     if reading.is_told {
         records.listen(Listener::new(alloc, &reading.wants, &tally)?);
+    }
+    if reading.is_told || reading.is_shown() {
+        records.await_begins(Begins::new(alloc, &reading.wants, &tally)?);
     }
     Ok(tally)
 }
@@ -415,12 +421,16 @@ fn lengths_in<'a>(
     }
 }
 
-/// Whether it is told what is met: an archive, a state, another try or explanations are asked for.
+/// Whether it is told what is met: an archive, a state, another try, no lines of packets or explanations are asked for.
 fn is_told(options: ReadOptions<'_>, is_verbose: bool) -> bool
     ensures { result ≡ is_told (is_some options.entry.archive) (is_some options.entry.state)
-        (is_some options.entry.retry) is_verbose }
+        (is_some options.entry.retry) options.entry.is_quiet is_verbose }
 {
-    options.archive.is_some() || options.state.is_some() || options.retry.is_some() || is_verbose
+    options.archive.is_some()
+        || options.state.is_some()
+        || options.retry.is_some()
+        || options.is_quiet
+        || is_verbose
 }
 
 /// Which lines tell of packets.
@@ -508,6 +518,7 @@ fn read_between<'a>(
         is_retried: options.retry.is_some(),
         is_verbose,
         is_told: is_told(options, is_verbose),
+        is_archived: options.archive.is_some(),
         renewal: Renewal::new(options.retry.is_some()),
         patience,
         lines: lines_of(options),

@@ -118,7 +118,7 @@ fn add_up(these: &[&[u8]], those: &[&[u8]]) -> bool
 }
 
 /// The number that is asked for.
-fn number_in(action: &WantedAction<'_>) -> Option<Seq>
+pub fn number_in(action: &WantedAction<'_>) -> Option<Seq>
     ensures { result ≡ number_in (action_value action.now) }
 {
     match action {
@@ -140,7 +140,7 @@ fn is_same_number(this: Option<Seq>, that: Option<Seq>) -> bool
 }
 
 /// Whether both are of one station.
-fn is_same_station(this: &Want<'_>, that: &Want<'_>) -> bool
+pub fn is_same_station(this: &Want<'_>, that: &Want<'_>) -> bool
     ensures { result ≡ is_same_station this.now that.now }
 {
     this.network == that.network && this.station == that.station

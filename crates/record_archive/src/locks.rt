@@ -15,8 +15,8 @@ use std::io::{self, ErrorKind};
 pub enum TopFault {
     /// The folder can't be made, or a file in it that is locked can't be opened.
     Unopened(io::Error),
-    /// Somebody else puts records of one of the stations there.
-    Locked,
+    /// Somebody else puts records of one of the stations there, and has locked the file at that path for it.
+    Locked(String),
 }
 
 /// A file that is locked.
@@ -43,11 +43,19 @@ fn lock_path(alloc: Global, top: &str, codes: &StationCodes) -> Option<String> {
     }
 }
 
+/// That somebody else has locked the file at a path.
+fn locked_by_another(alloc: Global, path: &str) -> TopFault {
+    match String::from_str(alloc, path) {
+        Ok(path) => TopFault::Locked(path),
+        Err(_) => no_memory(),
+    }
+}
+
 /// Locks a file.
 fn locked_at(rt: &HostRuntime, path: &str) -> Result<File, TopFault> {
     match lock_at(rt, path) {
         Ok(file) => Ok(file),
-        Err(LockFault::Busy) => Err(TopFault::Locked),
+        Err(LockFault::Busy) => Err(locked_by_another(rt.alloc(), path)),
         Err(LockFault::Refused(reason)) => Err(TopFault::Unopened(reason)),
     }
 }
