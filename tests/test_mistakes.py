@@ -26,6 +26,7 @@ NUMBER = "1 to 6 hexadecimal digits, after @; --fetch with --begin needs them, a
 TIME = "  allowed: a time in UTC, as 2024-02-29, 2024-02-29T00:00:00 (or .0000, four digits) or 2024,2,29,0,0,0\n"
 STATE = "53 State\n  cause: the file with the state is not in lines of a network, a station, a number and an end\n  file: %s\n  line: %d\n"
 PLAIN = "  file: %s\n  reason: it has to be a plain file\n"
+ANY_STATION = "seedlinkd: a feed port answers nothing: --config, or the server's --log, says which stations it has not\n"
 SERVE = "serve c.toml --listen HERE:0 --feed HERE:0 --turns 1 "
 # What the user did, the words, the status, and what is said with -v, in this order. SERVER, FEEDS and STATUS are the ports of a server
 # that has GE APE with two records; FREE is a port at which nobody listens; HTTP, SSH and NOISE are other services.
@@ -86,6 +87,9 @@ MISTAKES = [
      ["seedlinkd: passed over ", " bytes in no record (a file compressed by gzip), from byte 0 of two.gz on\n", "sent 0 records\n"]),
     ("a feed at the port for clients", "feed SERVER many.mseed", 1, ["52 BadReply\n", "perhaps this is its port for clients\n"]),
     ("one record", "feed FEEDS one.mseed", 0, ["sent 1 record\n"]),
+    ("a few records at the port for clients", "feed SERVER ten.mseed", 1, ["52 BadReply\n", "perhaps this is its port for clients\n"]),
+    ("a station that the server has not", "feed FEEDS wlf.mseed", 0, [ANY_STATION, "sent 1 record\n"]),
+    ("a file that is named twice", "feed FEEDS two.mseed one.mseed two.mseed", 0, ["seedlinkd: its records were sent twice: two.mseed is named again\n", "sent 5 records\n"]),
     ("a feed at the status port", "feed HTTP many.mseed", 1, ["52 BadReply\n", "  cause: the server answered, which a feed port never does"]),
     ("the words in another order", "feed two.mseed FEEDS", 1, [ADDRESS % "two.mseed"]),
     ("a configuration that is fed", "feed FEEDS c.toml", 1, ["41 Partial\n", "  file: c.toml\n"]),
@@ -160,6 +164,8 @@ def make_files():
     kit.write("one.mseed", record(1, "APE"))
     two = record(1, "APE") + record(2, "APE", start=(2024, 60, 0, 0, 1, 0))
     kit.write("two.mseed", two)
+    kit.write("wlf.mseed", record(1, "WLF"))
+    kit.write("ten.mseed", record(10, "APE"))
     kit.write("two.gz", gzip.compress(two * 20))
     kit.write("torn.mseed", two[:512] + b"x" + two[512:])
     kit.write("rest.mseed", two[:700])

@@ -118,7 +118,7 @@ class Terminal(kit.Test):
         status, text = self.ends("feed", server.feed_address, "fed")
         self.assertEqual(status, 0)
         self.assertRegex(text, r"\r\d+ records?, \d+ of 512000 bytes, \d+ %, \d+ records/s\x1b\[K")
-        self.assertTrue(text.endswith("\r\x1b[Ksent 1000 records\n"), text)
+        self.assertRegex(text, r"\r\x1b\[Kseedlinkd: a feed port answers nothing: [^\n]*\nsent 1000 records\n\Z")
 
     def test_how_far_a_check_is(self):
         kit.write("checked", b"".join(record(it) for it in range(1000)))

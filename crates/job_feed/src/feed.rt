@@ -6,6 +6,9 @@
 //! So `feed` looks for an end before it shuts, and takes a shut that fails for one. After the end it asks whether the
 //! system still has a peer of the connection: it has none if the server's end came after the feed's own had arrived,
 //! and still has one if both were on their way.
+//!
+//! A port for clients answers a line that it does not know, but not if the end comes with it. Of a few records it reads
+//! both at once, so after these the end is sent a moment later.
 ghost use Rattle.std.specs.Prelude.{◌≡◌, ◌+◌, ◌-◌, ◌^◌, ◌/◌, length, min, take, IfErr, IfOk, IfSome, OnErr, OnOk};
 ghost use Rattle.feeder.specs.Sending.{whole_part};
 ghost use Rattle.job_feed.specs.Handing.{CountsBeginning, counted_part};
@@ -38,6 +41,9 @@ fn is_over(stream: &TcpStream) -> bool {
 fn is_closed(stream: &TcpStream) -> bool {
     matches!(stream.take_error(), Ok(None)) && stream.peer_addr().is_err()
 }
+
+/// How many records a port for clients may read together with the end.
+const FEW: u64 = 4;
 
 /// A feed of which all records were sent, and whose sending half is shut.
 #[derive(Drop)]
@@ -160,6 +166,9 @@ impl<'r> Feed<WaitingStream<'r>> {
     {
         let count = self.records();
         let Feed { stream, .. } = self;
+        if count <= FEW && stream.await_answer().is_err() {
+            return Err(FeedFault::Untaken);
+        }
         let open = stream.stream();
         if is_over(open) || open.shutdown(Shutdown::Write).is_err() {
             return Err(FeedFault::Untaken);

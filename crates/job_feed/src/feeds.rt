@@ -10,7 +10,7 @@ use crate::fault::FeedFault;
 use crate::feed::{Feed, SentFeed};
 use crate::judging::{Judged, finding_of};
 use crate::lines::FeedLine;
-use crate::looks::look_at_each;
+use crate::looks::{look_at_each, tell_repeated};
 use crate::sent::{FileRecord, SentRecords};
 use crate::skipping::{bytes_before, pass_over};
 use crate::waiting::WaitingStream;
@@ -337,6 +337,9 @@ fn tell_sent(
             let _ = eprintln!(rt; "{}", none_sent(first));
         }
         _ if is_shown => {
+            if config.is_none() {
+                let _ = eprintln!(rt; "{}", FeedLine::AnyStation);
+            }
             let _ = eprintln!(rt; "{}", FeedLine::Sent { count });
         }
         _ => {}
@@ -392,6 +395,7 @@ fn feed_by<'a, S: Stations>(
     let from = first_record(options.from);
     let sent = send_and_wait(rt, server, files, from, &rules, &mut progress);
     if sent.is_ok() {
+        tell_repeated(rt, files);
         let first = beginning_of(files, from);
         tell_sent(rt, &progress, options.config, first, rules.is_shown);
     } else if rules.is_shown {

@@ -20,6 +20,12 @@ pub enum FeedLine<'a> {
         file: &'a str,
         stretch: Stretch,
     },
+    /// A file is named a second time.
+    Again {
+        file: &'a str,
+    },
+    /// Which stations the server has was not looked at.
+    AnyStation,
     /// All was sent.
     Sent {
         count: u64,
@@ -102,6 +108,16 @@ impl Display for FeedLine<'_> {
                 Several::bytes(stretch.bytes),
                 Known(stretch.kind),
                 stretch.offset
+            ),
+            FeedLine::Again { file } => {
+                write!(
+                    line,
+                    "seedlinkd: its records were sent twice: {file} is named again"
+                )
+            }
+            FeedLine::AnyStation => write!(
+                line,
+                "seedlinkd: a feed port answers nothing: --config, or the server's --log, says which stations it has not"
             ),
             FeedLine::Sent { count } => write!(line, "sent {}", Several::records(count)),
             FeedLine::Short { from, file } => {

@@ -7,8 +7,10 @@
 //! its turn is told then, after the records of the files before it were sent.
 ghost use Rattle.std.specs.Prelude.{All, Ok, OnOk};
 
+use crate::lines::FeedLine;
 use incidents::Incident;
 use job_base::{open, unopened};
+use std::alloc::{AllocError, Global};
 use std::{fs, io};
 
 /// Whether a file can be opened.
@@ -53,4 +55,26 @@ fn try_each<T: Copy, E: Drop, F: Fn(T) -> Result<(), E>>(items: &[T], attempt: F
 /// Looks at each of some files.
 pub fn look_at_each<'a>(rt: &HostRuntime, files: &[&'a str]) -> Result<(), Incident<'a>> {
     try_each(files, |path| look_at(rt, path))
+}
+
+/// Files in the order of their names.
+fn in_order<'a>(alloc: Global, files: &[&'a str]) -> Result<Vec<&'a str>, AllocError> {
+    let mut names = files.to_vec(alloc)?;
+    names.sort()?;
+    Ok(names)
+}
+
+/// Tells of each file that is named again that its records were sent twice, but not of the standard input, which then
+/// is at its end. Without memory it tells of none.
+pub fn tell_repeated(rt: &HostRuntime, files: &[&str]) {
+    let Ok(names) = in_order(rt.alloc(), files) else {
+        return;
+    };
+    for pair in names.windows(2) {
+        if let [file, other] = pair {
+            if file == other && *file != "-" {
+                let _ = eprintln!(rt; "{}", FeedLine::Again { file });
+            }
+        }
+    }
 }

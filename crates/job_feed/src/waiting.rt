@@ -16,6 +16,9 @@ const STEP: u64 = 15;
 
 const STEPS: u32 = 4;
 
+/// How many milliseconds an answer is waited for that a feed port never gives.
+const MOMENT: u64 = 50;
+
 /// Whether it is told that nothing was taken: if somebody is shown it, and if the feed is not over by then.
 fn is_told(is_shown: bool, limit: Option<u64>) -> bool
     ensures { result ≡ is_told is_shown limit }
@@ -90,6 +93,14 @@ impl<'r> WaitingStream<'r> {
     /// The connection itself.
     pub fn stream(&self) -> &TcpStream {
         &self.stream
+    }
+
+    /// Waits a moment for the server to say something, or to end the connection.
+    pub fn await_answer(&self) -> io::Result<()> {
+        self.stream
+            .set_read_timeout(Some(Duration::from_millis(MOMENT)))?;
+        let _answer = self.stream.peek(&mut [0; 1]);
+        bound(&self.stream, first_wait(self.is_told, self.limit))
     }
 
     /// Tells that nothing was taken, and has the call that is made once more end after the rest of the time.
