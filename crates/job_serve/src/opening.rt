@@ -21,6 +21,7 @@ use job_base::{
 };
 use ports_socket::Admission;
 use std::alloc::Global;
+use text_parts::period::Period;
 
 /// Where a server is to be, and whom it takes.
 #[derive(Drop)]
@@ -95,10 +96,10 @@ fn config_of<'a>(
     }
 }
 
-/// Reads the files that the words name. If the configuration is refused, and faults are explained, each of its faults is
-/// named. The keys of the configuration that are not known are named, and so are entries of lists that admit something
-/// else than they look like. A configuration that is to be read again has to be a plain file. Where the words name a file
-/// of numbers, they are kept there.
+/// Reads the files that the words name. If the configuration is refused, and faults are explained, each of its faults
+/// is named. The keys of the configuration that are not known are named, and so are entries of lists that admit
+/// something else than they look like. A configuration that is to be read again has to be a plain file. Where the words
+/// name a file of numbers, they are kept there.
 pub fn served_by<'a>(
     rt: &HostRuntime,
     options: &ServeOptions<'a>,
@@ -113,6 +114,7 @@ pub fn served_by<'a>(
     let read = config_of(rt, options.config, is_verbose)?;
     tell_unknown_keys(rt, options.config, &read, options.is_strict)?;
     tell_lists(rt, options, &read);
+    tell_periods(rt, options, is_verbose);
     let open = open_for(rt.alloc(), options, &read)?;
     tell_missing(rt, read.config().max_connections());
     let mut config = copy_of(rt.alloc(), read.config())?;
@@ -140,6 +142,33 @@ fn tell_open_feeds(rt: &HostRuntime, options: &ServeOptions<'_>) {
     }
 }
 
+/// Tells that this machine alone may ask for the status, if others would expect to.
+fn tell_closed_status(rt: &HostRuntime, options: &ServeOptions<'_>) {
+    let Some(status) = options.status else {
+        return;
+    };
+    if options.status_from.is_none() && !status.starts_with("127.") {
+        let _ = eprint!(rt;
+            "seedlinkd: without --status-from this machine alone may ask at {status}\n"
+        );
+    }
+}
+
+/// Tells that a number without a unit counts turns, and not seconds.
+fn tell_turns(rt: &HostRuntime, option: &str, period: Option<Period>) {
+    if let Some(Period::Turns(turns)) = period {
+        let _ = eprint!(rt; "seedlinkd: {option} {turns} counts turns: {turns}s is by time\n");
+    }
+}
+
+/// Tells that of how often something is done, at a terminal or if faults are explained.
+fn tell_periods(rt: &HostRuntime, options: &ServeOptions<'_>, is_verbose: bool) {
+    if is_verbose || is_terminal() {
+        tell_turns(rt, "--reread", options.reread);
+        tell_turns(rt, "--report", options.report);
+    }
+}
+
 /// Names what lists admit that they don't look like: those of the configuration, and those of the words. Entries of the
 /// configuration that are `0.0.0.0/0` are not named: a server that is open to everybody would say so of each of its
 /// stations.
@@ -148,6 +177,7 @@ fn tell_lists(rt: &HostRuntime, options: &ServeOptions<'_>, read: &ConfigText) {
     tell_list_remarks(rt, "--feed-from", options.feed_from);
     tell_open_feeds(rt, options);
     tell_list_remarks(rt, "--status-from", options.status_from);
+    tell_closed_status(rt, options);
 }
 
 /// A configuration once more.
