@@ -207,7 +207,7 @@ impl Journal for VisitLines<'_> {
 
     /// If lines are written.
     fn listens(&self) -> bool
-        ensures { result ≡ is_some self.now.lines }
+        ensures { result ≡ is_some self.entry.now.lines }
     {
         self.lines.is_some()
     }
