@@ -219,7 +219,8 @@ class Explained(kit.Test):
         """Makes what is there before an example is run: files, and perhaps a server, which is answered."""
         kit.write("island.toml", ISLAND)
         if (fault, job) == ("22 Limit", "serve"):
-            kit.write("island.toml", with_last_capacity("0"))
+            head, key, _ = text_of("examples/island.toml").rpartition("capacity = ")
+            kit.write("island.toml", head + key + "0\n")
         kit.write("toml.toml", "title = Island\n")
         kit.write("array.toml", 'title = "Island"\naccess = ["10.0.0.7"]\n' + STATION % ("GE", "APE"))
         kit.write("host.toml", 'title = "Island"\naccess = "localhost"\n' + STATION % ("GE", "APE"))
