@@ -1,5 +1,6 @@
 -- One value more of those that describe the stations.
-use Rattle.std.proofs.Common.{◌≡◌, ◌<◌, ◌+◌, ℕ, List, [], ◌∷◌, ◌++◌, map, drop, length, get_or, sym, ap, ◌∙◌, Result, Option}
+use Rattle.std.proofs.Common.{◌≡◌, ◌<◌, ◌+◌, ℕ, List, [], ◌∷◌, ◌++◌, map, drop, length}
+use Rattle.std.proofs.Common.{get_or, sym, ap, ◌∙◌, Result, Option}
 use Rattle.std.proofs.Common.{Ok}
 use Rattle.std.proofs.lemmas.List.{at_drop_more}
 use Rattle.protocol.specs.Catalog.{Entry}

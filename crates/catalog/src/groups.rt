@@ -2,15 +2,16 @@
 ghost use Rattle.std.specs.Prelude.{◌≡◌, ◌++◌, ◌∷◌, [], IfOk, OnOk, Some, option_map};
 ghost use Rattle.toml.specs.View.{table_view};
 ghost use Rattle.access_list.specs.Tokens.{is_separator};
-ghost use Rattle.catalog.specs.Groups.{entry_apart, entry_meant, group_in, groups_of, groups_value, list_meant, named_in};
+ghost use Rattle.catalog.specs.Groups.{entry_apart, entry_meant, group_in, groups_of};
+ghost use Rattle.catalog.specs.Groups.{groups_value, list_meant, named_in};
 
 use crate::keys::value_at;
 use access_list::list::is_separator;
 use std::alloc::{AllocError, Global};
 use toml::Table;
 
-/// The named lists of a configuration: the texts of its table `groups`, each at its name. `groups_value` is that table, if
-/// there is one.
+/// The named lists of a configuration: the texts of its table `groups`, each at its name. `groups_value` is that table,
+/// if there is one.
 #[derive(Clone, Copy, Drop)]
 pub struct Groups<'a> {
     table: Option<&'a Table>,

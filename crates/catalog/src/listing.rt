@@ -89,14 +89,16 @@ fn stations_read(
     groups: &Groups<'_>,
     values: &[Value],
 ) -> Result<IndexedStations, ConfigError>
-    ensures ok { IfOk result (λ listed. stations_read (groups_value groups.now) [] (map view values.now) ≡ Ok listed.stations.items) }
+    ensures ok { IfOk result (λ listed. stations_read (groups_value groups.now) [] (map view values.now)
+        ≡ Ok listed.stations.items) }
     ensures distinct { IfOk result (λ listed. HasDistinctCodes listed.stations.items) }
     ensures count { IfOk result (λ listed. length listed.stations.items ≡ length values.now) }
     ensures finds { IfOk result (λ listed. Finds listed.index.places listed.stations.items) }
     ensures short { IfOk result (λ listed. All HasShortCodes listed.stations.items) }
     ensures fault { IfErr result (λ e. e.fault ≢ ConfigFault.OutOfMemory
         → stations_read (groups_value groups.now) [] (map view values.now) ≡ Err e.fault) }
-    ensures step { IfErr result (λ e. e.fault ≢ ConfigFault.OutOfMemory → FailsAmong (groups_value groups.now) (map view values.now) e e.step) }
+    ensures step { IfErr result (λ e. e.fault ≢ ConfigFault.OutOfMemory
+        → FailsAmong (groups_value groups.now) (map view values.now) e e.step) }
 {
     let mut stations = Vec::new(alloc);
     let mut index = Index::new(alloc);

@@ -187,8 +187,10 @@ impl Settings {
         groups: &Groups<'_>,
         table: &Table,
     ) -> Result<Settings, SettingsError>
-        ensures ok { IfOk result (λ s. settings_of (groups_value groups.now) (table_view table.now) ≡ Ok (settings_value s)) }
-        ensures steps { IfOk result (λ s. first_fault (key_fault (groups_value groups.now) (table_view table.now)) setting_steps ≡ None) }
+        ensures ok { IfOk result (λ s. settings_of (groups_value groups.now) (table_view table.now)
+            ≡ Ok (settings_value s)) }
+        ensures steps { IfOk result (λ s.
+            first_fault (key_fault (groups_value groups.now) (table_view table.now)) setting_steps ≡ None) }
         ensures short { IfOk result (λ s. length s.description.items ≤ 60) }
         ensures some { IfOk result (λ s. 1 ≤ s.capacity) }
         ensures limit { IfOk result (λ s. s.capacity ≤ 65536) }

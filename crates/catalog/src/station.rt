@@ -75,7 +75,8 @@ impl Station {
         place: usize,
     ) -> Result<Station, ConfigError>
         ensures ok { IfOk result (λ station. entry_of (groups_value groups.now) (table_view table.now) ≡ Ok station) }
-        ensures keys { OnOk result (first_fault (key_fault (groups_value groups.now) (table_view table.now)) key_steps ≡ None) }
+        ensures keys { OnOk result
+            (first_fault (key_fault (groups_value groups.now) (table_view table.now)) key_steps ≡ None) }
         ensures network { IfOk result (λ station. network_of (table_view table.now) ≡ Ok station.station.network) }
         ensures code { IfOk result (λ station. code_of (table_view table.now) ≡ Ok station.station.code) }
         ensures fault { IfErr result (λ e. e.fault ≢ ConfigFault.OutOfMemory

@@ -11,7 +11,8 @@ use Rattle.catalog.specs.declared.error.Step.{Step}
 use Rattle.catalog.specs.declared.error.Step.TheVariants as step
 use Rattle.catalog.specs.declared.settings.StationStep.{StationStep}
 use Rattle.protocol.proofs.FoundLemmas.{both}
-use Rattle.config_explained.specs.Differences.{differing_among, differing_key, differing_step, differs, step_by, step_or}
+use Rattle.config_explained.specs.Differences.{differing_among, differing_key}
+use Rattle.config_explained.specs.Differences.{differing_step, differs, step_by, step_or}
 use Rattle.catalog.specs.Settings.{key_steps}
 
 -- ---- one station after the other

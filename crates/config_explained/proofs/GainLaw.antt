@@ -7,15 +7,19 @@ use Rattle.std.specs.Int.{bit_at, bit_not, w32}
 use Rattle.std.proofs.lemmas.Bool.{cases_eq, cases_lt}
 use Rattle.std.proofs.lemmas.List.Folds.{list_any-append}
 use Rattle.std.proofs.lemmas.Nat.{and_assoc, and_le_l, or_lt, pow_pos}
-use Rattle.std.proofs.lemmas.Nat.Bits.{and_pow, bit_at-lt, bit_at-zero, bit_at_above, bit_at_and, bit_at_or, same_from_bits}
+use Rattle.std.proofs.lemmas.Nat.Bits.{and_pow, bit_at-lt, bit_at-zero, bit_at_above}
+use Rattle.std.proofs.lemmas.Nat.Bits.{bit_at_and, bit_at_or, same_from_bits}
 use Rattle.protocol.proofs.FoundLemmas.{both}
 use Rattle.protocol.specs.Access.{HasMask, Token, allows, is_in}
-use Rattle.config_explained.specs.Coverage.{AdmitsAll, AdmitsNone, admits_all, admits_none, coverage, meets, with, without}
+use Rattle.config_explained.specs.Coverage.{AdmitsAll, AdmitsNone, admits_all, admits_none}
+use Rattle.config_explained.specs.Coverage.{coverage, meets, with, without}
 use Rattle.config_explained.specs.Gains.{by_gain, everything, gain_of, gains, gains_in, masks_at, masks_of}
 use Rattle.config_explained.specs.declared.coverage.Coverage.{Coverage}
 use Rattle.config_explained.specs.declared.coverage.Coverage.TheVariants.{Whole, Part, Nothing}
-use Rattle.config_explained.proofs.CoverageLemmas.{agrees_in, all_found, all_tested, below_32, bit_is, clear_same, in_with}
-use Rattle.config_explained.proofs.CoverageLemmas.{in_without, none_found, none_tested, not_all_tested, not_both, of_with}
+use Rattle.config_explained.proofs.CoverageLemmas.{agrees_in, all_found, all_tested, below_32}
+use Rattle.config_explained.proofs.CoverageLemmas.{bit_is, clear_same, in_with}
+use Rattle.config_explained.proofs.CoverageLemmas.{in_without, none_found, none_tested}
+use Rattle.config_explained.proofs.CoverageLemmas.{not_all_tested, not_both, of_with}
 use Rattle.config_explained.proofs.CoverageLemmas.{clear_other, is_itself, meets_at, of_without, or_other, or_same}
 
 -- ---- the bits of masks

@@ -1,5 +1,6 @@
 -- How much of a network is admitted by a list of networks.
-use Rattle.std.specs.Prelude.{◌≡◌, ℕ, zero, suc, if◌then◌else◌, not, ◌^◌, ◌<◌, ◌==◌, ◌&&◌, Bool, true, false, List, bit_and, bit_or}
+use Rattle.std.specs.Prelude.{◌≡◌, ℕ, zero, suc, if◌then◌else◌, not, ◌^◌, ◌<◌, ◌==◌, ◌&&◌}
+use Rattle.std.specs.Prelude.{Bool, true, false, List, bit_and, bit_or}
 use Rattle.std.specs.Int.{bit_at, bit_not, w32}
 use Rattle.protocol.specs.Access.{Token, is_in, allows}
 use Rattle.config_explained.specs.declared.coverage.Coverage.{Coverage}

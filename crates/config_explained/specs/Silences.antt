@@ -1,5 +1,6 @@
 -- How long a station may be silent before its operator is told. This project's own; clients see nothing of it.
-use Rattle.std.specs.Prelude.{ℕ, zero, suc, ◌+◌, nat_le, ℤ, pos, negsuc, if◌then◌else◌, List, [], ◌∷◌, Option, Some, None}
+use Rattle.std.specs.Prelude.{ℕ, zero, suc, ◌+◌, nat_le, ℤ, pos, negsuc}
+use Rattle.std.specs.Prelude.{if◌then◌else◌, List, [], ◌∷◌, Option, Some, None}
 use Rattle.std.specs.Prelude.{option_and_then, codes}
 use Rattle.toml.specs.Data.{Data, Members, as_integer, get_member}
 use Rattle.protocol.specs.Catalog.{Station}

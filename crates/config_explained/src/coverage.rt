@@ -2,7 +2,8 @@
 ghost use Rattle.std.specs.Prelude.{◌≡◌, ◌<◌, true, false, find, bit_and};
 ghost use Rattle.std.specs.Int.{bit_not, w32};
 ghost use Rattle.std.specs.List.{list_any};
-ghost use Rattle.config_explained.specs.Coverage.{AdmitsAll, coverage, IsBitOf, has_all, has_all_of, meets, with, without};
+ghost use Rattle.config_explained.specs.Coverage.{AdmitsAll, coverage, IsBitOf, has_all};
+ghost use Rattle.config_explained.specs.Coverage.{has_all_of, meets, with, without};
 
 use crate::network::Network;
 

@@ -1,6 +1,7 @@
 //! The text of a network.
 ghost use Rattle.std.specs.Prelude.{◌≡◌, ◌≤◌, ◌++◌, OnOk};
-ghost use Rattle.config_explained.specs.NetworkTexts.{dotted, leading_count, mask_by, mask_text, network_text, pair_text};
+ghost use Rattle.config_explained.specs.NetworkTexts.{dotted, leading_count, mask_by, mask_text};
+ghost use Rattle.config_explained.specs.NetworkTexts.{network_text, pair_text};
 
 use crate::lines::put;
 use crate::network::{Network, ones};

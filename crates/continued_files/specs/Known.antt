@@ -1,5 +1,6 @@
 -- What is known of files in which readers go on.
-use Rattle.std.specs.Prelude.{◌≡◌, ◌≤◌, ◌≢◌, ◌<◌, ℕ, List, [], ◌∷◌, length, Bool, false, true, Option, None, Some, nat_lt}
+use Rattle.std.specs.Prelude.{◌≡◌, ◌≤◌, ◌≢◌, ◌<◌, ℕ, List, [], ◌∷◌, length, Bool}
+use Rattle.std.specs.Prelude.{false, true, Option, None, Some, nat_lt}
 use Rattle.std.specs.Prelude.{if◌then◌else◌, String}
 use Rattle.std.specs.BTreeMap.{BTreeMap, get_by_text}
 use Rattle.std.specs.Str.{bytes_eq}

@@ -5,9 +5,9 @@
 //! within the last hour are named, and a state of an earlier version, which names none, is read. What a state named
 //! stays named until a record comes to the file, or the file is gone.
 //!
-//! A record of a tail that doesn't come again, since the servers have lost it, would be looked for in vain for good, and
-//! each reader would read the file from there on. When none comes any more is known to whoever knows of servers: then
-//! what is left of tails is given up.
+//! A record of a tail that doesn't come again, since the servers have lost it, would be looked for in vain for good,
+//! and each reader would read the file from there on. When none comes any more is known to whoever knows of servers:
+//! then what is left of tails is given up.
 ghost use Rattle.std.specs.Prelude.{◌≡◌, ◌≢◌, ◌+◌, ◌⊎◌, [], ℕ, List, IfOk, None, OnOk, Some, if◌then◌else◌, length};
 ghost use Rattle.std.specs.Prelude.{false, true};
 ghost use Rattle.continued_files.specs.Known.{GivesUpOf, IsIndexed, Knows, KnowsOthers, kept_by, known_at, length_of};

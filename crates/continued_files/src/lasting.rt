@@ -67,7 +67,8 @@ impl<F: RecordFiles> ContinuedFiles<F> {
 
     /// Nothing is known any more of the file of a name, and the state doesn't name it.
     fn forget_one(&mut self, name: &str)
-        ensures known { (other : List ℕ) → other ≢ name.now → (known_at self.new.all other ≡ known_at self.old.all other)
+        ensures known { (other : List ℕ) → other ≢ name.now
+            → (known_at self.new.all other ≡ known_at self.old.all other)
             × (length_of self.new.named.items other ≡ length_of self.old.named.items other) }
         ensures none { (known_at self.new.all name.now ≡ None) × (length_of self.new.named.items name.now ≡ None) }
         ensures rest { (self.new.files ≡ self.old.files) × (self.new.unnamed ≡ self.old.unnamed)
@@ -93,8 +94,8 @@ impl<F: RecordFiles> ContinuedFiles<F> {
         }
     }
 
-    /// A file to which nothing was handed for long is forgotten, and so is one that the state names and that is gone, if
-    /// that loses nothing: all of a file that is not known and not named is tail.
+    /// A file to which nothing was handed for long is forgotten, and so is one that the state names and that is gone,
+    /// if that loses nothing: all of a file that is not known and not named is tail.
     fn forget(&mut self)
         ensures left { KeepsTails self.old.all (λ name count. kept_by (length_of self.old.named.items name)
             self.old.unnamed count) self.new.all (λ name count. kept_by (length_of self.new.named.items name)

@@ -1,6 +1,7 @@
 -- What the loop says that it decides.
 -- The loop is this project's own. Left out: whether anybody hears it.
-use Rattle.std.specs.Prelude.{◌≡◌, ◌≢◌, ℕ, ◌+◌, ◌<◌, ◌≤◌, Bool, true, List, [], ◌∷◌, ◌++◌, length, map, slice_index, Option, None, Some}
+use Rattle.std.specs.Prelude.{◌≡◌, ◌≢◌, ℕ, ◌+◌, ◌<◌, ◌≤◌, Bool, true, List, [], ◌∷◌, ◌++◌}
+use Rattle.std.specs.Prelude.{length, map, slice_index, Option, None, Some}
 use Rattle.std.specs.Prelude.{Result, Ok, Err, flat_map, nat_lt, if◌then◌else◌, slice_index_or}
 use Rattle.protocol.specs.Catalog.{Config}
 use Rattle.protocol.specs.World.{World}

@@ -70,8 +70,8 @@ news_said server port k (Some news.Begins) = begin_said server port k
 
 -- What is said between the two of what the k-th client has to tell: all of it, after which nothing is left, if the
 -- ports listen; and else nothing, and the server is not asked.
-pub data TellsNews (listening : Bool) (server server' : ServerValue) (port k : ℕ) (old new : Option (List (ℕ × Decision)))
-    : Type 0 where
+pub data TellsNews (listening : Bool) (server server' : ServerValue) (port k : ℕ)
+    (old new : Option (List (ℕ × Decision))) : Type 0 where
   all : listening ≡ true → Decides old new (news_said server' port k (news_at server k)) → news_at server' k ≡ None
       → TellsNews listening server server' port k old new
   nothing : listening ≡ false → new ≡ old → server' ≡ server → TellsNews listening server server' port k old new

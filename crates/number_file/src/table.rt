@@ -1,5 +1,6 @@
 //! The numbers that a server keeps.
-ghost use Rattle.std.specs.Prelude.{◌≡◌, ◌<◌, ◌++◌, filter, map, length, slice_set, slice_get, All, IfOk, Ok, OnOk, Some};
+ghost use Rattle.std.specs.Prelude.{◌≡◌, ◌<◌, ◌++◌, filter, map, length, slice_set};
+ghost use Rattle.std.specs.Prelude.{slice_get, All, IfOk, Ok, OnOk, Some};
 ghost use Rattle.toml.specs.Parse.{parse_document};
 ghost use Rattle.catalog.specs.Numbers.{Numbered, numbered};
 ghost use Rattle.number_file.specs.Keeping.{AreKeepable, IsKeepable};

@@ -17,6 +17,15 @@ pub struct Traffic {
     pub lost: u64,
 }
 
+/// What went over a port of which nothing is known yet.
+const NOTHING: Traffic = Traffic {
+    given: 0,
+    taken: 0,
+    refused: 0,
+    cuts: 0,
+    lost: 0,
+};
+
 impl Traffic {
     /// So many bytes that a port gave.
     pub fn bytes_given(count: usize) -> Traffic
@@ -24,10 +33,7 @@ impl Traffic {
     {
         Traffic {
             given: count as u64,
-            taken: 0,
-            refused: 0,
-            cuts: 0,
-            lost: 0,
+            ..NOTHING
         }
     }
 
@@ -36,11 +42,8 @@ impl Traffic {
         ensures { result ≡ taking count }
     {
         Traffic {
-            given: 0,
             taken: count as u64,
-            refused: 0,
-            cuts: 0,
-            lost: 0,
+            ..NOTHING
         }
     }
 
@@ -49,11 +52,8 @@ impl Traffic {
         ensures { result ≡ refusing }
     {
         Traffic {
-            given: 0,
-            taken: 0,
             refused: 1,
-            cuts: 0,
-            lost: 0,
+            ..NOTHING
         }
     }
 
@@ -61,13 +61,7 @@ impl Traffic {
     pub fn one_cut() -> Traffic
         ensures { result ≡ cutting }
     {
-        Traffic {
-            given: 0,
-            taken: 0,
-            refused: 0,
-            cuts: 1,
-            lost: 0,
-        }
+        Traffic { cuts: 1, ..NOTHING }
     }
 
     /// So many records that a port's client lost.
@@ -75,11 +69,8 @@ impl Traffic {
         ensures { result ≡ losing count }
     {
         Traffic {
-            given: 0,
-            taken: 0,
-            refused: 0,
-            cuts: 0,
             lost: count,
+            ..NOTHING
         }
     }
 

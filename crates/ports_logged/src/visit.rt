@@ -179,10 +179,10 @@ fn put_end<W: Write>(f: &mut Formatter<W>, lost: u64, is_cut: bool) -> fmt::Resu
 
 impl Display for Visit {
     /// As `open 17 10.0.0.7`, `away 10.0.0.7 max_connections`, `refused 17 10.0.0.7 STATION GE WLF`,
-    /// `reads 17 10.0.0.7 GE APE DATA`, `sent 17 10.0.0.7 GE APE packets 100`, `cut 17 10.0.0.7`, `close 17 10.0.0.7 bytes 52000`,
-    /// `close 17 10.0.0.7 bytes 52000 lost 12 cut` for one that lost records and was cut, `feed 3 10.0.0.2`,
-    /// `feed 3 refused 6 Length, first at record 17`, `feed 3 refused GE WLF, an unknown station, first at record 2` and
-    /// `feed 3 over 10.0.0.2 records 120 refused 2`.
+    /// `reads 17 10.0.0.7 GE APE DATA`, `sent 17 10.0.0.7 GE APE packets 100`, `cut 17 10.0.0.7`,
+    /// `close 17 10.0.0.7 bytes 52000`, `close 17 10.0.0.7 bytes 52000 lost 12 cut` for one that lost records and was
+    /// cut, `feed 3 10.0.0.2`, `feed 3 refused 6 Length, first at record 17`,
+    /// `feed 3 refused GE WLF, an unknown station, first at record 2` and `feed 3 over 10.0.0.2 records 120 refused 2`.
     fn fmt<W: Write>(&self, f: &mut Formatter<W>) -> fmt::Result {
         match self {
             Visit::Open { port, address } => write!(f, "open {port} {address}"),

@@ -3,7 +3,8 @@
 //! `read_over` has an output for lines and one for records, beside the plan, the connection's reader and its writer. So
 //! a listing and a file of records come from one reading; a writer that keeps nothing (`Nowhere`) stands for an output
 //! that nobody wants.
-ghost use Rattle.std.specs.Prelude.{◌≡◌, ◌≢◌, ◌⊎◌, ◌≤◌, ◌∷◌, [], false, length, true, vec_len, Err, IfErr, IfOk, OnErr, OnOk, ℕ};
+ghost use Rattle.std.specs.Prelude.{◌≡◌, ◌≢◌, ◌⊎◌, ◌≤◌, ◌∷◌, [], false, length, true};
+ghost use Rattle.std.specs.Prelude.{vec_len, Err, IfErr, IfOk, OnErr, OnOk, ℕ};
 ghost use Rattle.std.specs.Prelude.{if◌then◌else◌};
 ghost use Rattle.slreader.specs.declared.fault.ReaderFault.TheVariants.{Limit, OutOfMemory};
 ghost use Rattle.slreader.specs.Dialogue.{begun};

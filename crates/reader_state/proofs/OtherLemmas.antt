@@ -1,5 +1,6 @@
 -- Lengths of files that differ.
-use Rattle.std.proofs.Common.{◌≡◌, ◌∙◌, ◌<◌, ◌+◌, ◌-◌, ◌&&◌, Bool, true, false, ℕ, List, [], ◌∷◌, ap, drop, get_or, length}
+use Rattle.std.proofs.Common.{◌≡◌, ◌∙◌, ◌<◌, ◌+◌, ◌-◌, ◌&&◌, Bool, true, false, ℕ}
+use Rattle.std.proofs.Common.{List, [], ◌∷◌, ap, drop, get_or, length}
 use Rattle.std.proofs.Common.{arith, cond, inl, inr, not, refl, suc, sym, zero, ◌||◌}
 use Rattle.std.proofs.lemmas.Bool.{cases_Bool}
 use Rattle.std.proofs.lemmas.List.{at_drop_more}

@@ -1,6 +1,7 @@
 -- The streams of files of records: what each has, and where it has gaps and overlaps in the order of time.
 -- SEED Reference Manual 2.4, chapter 8, for what a record says. A stream is the records of one type of a channel.
-use Rattle.std.specs.Prelude.{◌≡◌, ◌<◌, ℕ, ℤ, pos, negsuc, ◌-ℤ◌, ◌+◌, ◌-◌, ◌*◌, ◌^◌, ◌==◌, ◌&&◌, ◌||◌, not, Bool, true, false}
+use Rattle.std.specs.Prelude.{◌≡◌, ◌<◌, ℕ, ℤ, pos, negsuc, ◌-ℤ◌, ◌+◌, ◌-◌, ◌*◌, ◌^◌}
+use Rattle.std.specs.Prelude.{◌==◌, ◌&&◌, ◌||◌, not, Bool, true, false}
 use Rattle.std.specs.Prelude.{nat_lt, int_lt, min, if◌then◌else◌, List, [], ◌∷◌, ◌++◌, map, length, Option, Some, None}
 use Rattle.std.specs.Prelude.{get_or, slice_get, slice_set, IsPermutation, IsSortedByKey}
 use Rattle.std.specs.List.{list_any}

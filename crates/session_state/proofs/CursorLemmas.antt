@@ -88,7 +88,8 @@ mode-others (Multi n) i cursor j apart = passed-others n.choices i cursor j apar
 pub pass-same : (a n : SessionValue) (i : ℕ) (cursor : Cursor) → n ≡ record a { mode = passed_in a.mode i cursor }
     → but_for_cursors n ≡ but_for_cursors a
 pass-same a n i cursor made =
-    ap but_for_cursors made ∙ ap (λ m. record a { mode = m; looked = None; lost = 0; packets = [] }) (same-mode a.mode i cursor)
+    ap but_for_cursors made
+    ∙ ap (λ m. record a { mode = m; looked = None; lost = 0; packets = [] }) (same-mode a.mode i cursor)
 
 pub pass-here : (a n : SessionValue) (i : ℕ) (cursor : Cursor) → n ≡ record a { mode = passed_in a.mode i cursor }
     → (c : Choice) → slice_get (chosen_of a.mode) i ≡ Some c

@@ -76,7 +76,8 @@ leaves config h a r state none e = ap (client_in config h) e
 -- a session in which a change was made
 change-follows : (config : Config) (h : List Arrival) (places : Seen) (mode new : ModeValue) (l : Line) (u : List ℕ)
     (looked : Option ℕ) (lost : ℕ) (packets : List ℕ) (news : Option News) (change : Change)
-    → client_in config h (after_change (record (reading places mode l u looked lost packets news) { mode = new }) change)
+    → client_in config h
+    (after_change (record (reading places mode l u looked lost packets news) { mode = new }) change)
     ≡ follow (session_view config (reading places mode l u looked lost packets news)) h
     (client_in config h (reading places mode l u looked lost packets news))
     (negotiated_in config mode) (outcome_after change (negotiated_in config new))
@@ -153,7 +154,8 @@ reads_byte config h a n r instruction b state none line answers same =
     (outcome_by config (session_view config x) (negotiated_in config x.mode) instruction)) n_is
     ∙ ap
     (follow (session_view config a) h
-    (client_in config h (reading a.places a.mode (open_after a.open_line (b ∷ [])) a.unread a.looked a.lost a.packets a.news))
+    (client_in config h
+    (reading a.places a.mode (open_after a.open_line (b ∷ [])) a.unread a.looked a.lost a.packets a.news))
     (negotiated_in config a.mode)) (sym (same (negotiated_in config a.mode)))
     ∙ sym (read_byte-lines (session_view config a) h a.open_line (negotiated_in config a.mode) a.unread b)
     ∙ ap (λ (x : SessionValue). read_byte (session_view config a) h b (client_in config h x)) (sym a_is)

@@ -1,5 +1,6 @@
 -- A session, and the client that it is beside a configuration and a history.
-use Rattle.std.specs.Prelude.{◌≡◌, ℕ, ◌+◌, ◌-◌, ◌^◌, ◌&&◌, min, nat_lt, slice_index, slice_set, if◌then◌else◌, Bool, true, false, List, [], length, drop, map}
+use Rattle.std.specs.Prelude.{◌≡◌, ℕ, ◌+◌, ◌-◌, ◌^◌, ◌&&◌, min, nat_lt, slice_index, slice_set}
+use Rattle.std.specs.Prelude.{if◌then◌else◌, Bool, true, false, List, [], length, drop, map}
 use Rattle.std.specs.Prelude.{filter_map, slice_get, Option, Some, None, All}
 use Rattle.std.specs.List.{before_first, position_or_len}
 use Rattle.protocol.specs.Lines.{Line, is_line_end, open_after}

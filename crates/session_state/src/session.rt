@@ -1,7 +1,7 @@
 //! One client's side of the server.
 //!
-//! Three calls serve `transfer` alone: `keep` takes the first arrival that a request wants and its cursor, `put` takes a
-//! packet with the position after it, and `state` tells which of its states a session is in without the data of it.
+//! Three calls serve `transfer` alone: `keep` takes the first arrival that a request wants and its cursor, `put` takes
+//! a packet with the position after it, and `state` tells which of its states a session is in without the data of it.
 ghost use Rattle.std.specs.Prelude.{◌≡◌, ◌≢◌, ◌≤◌, ◌<◌, ◌+◌, ◌-◌, ◌&&◌, IfOk, IfSome, OnErr, List, [], ◌∷◌, ◌++◌};
 ghost use Rattle.std.specs.Prelude.{IsTrue, length, drop};
 ghost use Rattle.std.specs.Prelude.{◌↔◌, map, nat_lt, not, is_ok, is_some, true, false, codes, ℕ, Some, slice_get};
@@ -421,8 +421,8 @@ impl Session {
         self.mode.begin_at(i, first);
     }
 
-    /// Keeps how far the transfer has come in the ring of the i-th named station, and counts the packets that it was sent
-    /// on that way.
+    /// Keeps how far the transfer has come in the ring of the i-th named station, and counts the packets that it was
+    /// sent on that way.
     pub fn move_cursor(&mut self, i: usize, cursor: Cursor, sent: usize)
         requires { i < length (chosen_of self.old.mode) }
         ensures same { but_for_cursors self.new ≡ but_for_cursors self.old }

@@ -1,5 +1,6 @@
 -- A template that is filled, piece by piece.
-use Rattle.std.proofs.Common.{◌≡◌, ◌⊎◌, inl, inr, ℕ, ◌==◌, ◌||◌, nat_lt, Bool, true, false, List, [], ◌∷◌, ◌++◌, refl, ap}
+use Rattle.std.proofs.Common.{◌≡◌, ◌⊎◌, inl, inr, ℕ, ◌==◌, ◌||◌, nat_lt, Bool, true}
+use Rattle.std.proofs.Common.{false, List, [], ◌∷◌, ◌++◌, refl, ap}
 use Rattle.std.proofs.Common.{length, if◌then◌else◌, flat_map, append_assoc, append-nil, sym, ◌∙◌, ap₂, subst}
 use Rattle.std.specs.Prelude.{codes}
 use Rattle.status_page.specs.declared.escape.Language.{Language}

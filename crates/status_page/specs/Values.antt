@@ -1,5 +1,6 @@
 -- What is told of a server: how each station stands, and which minute was the busiest.
-use Rattle.std.specs.Prelude.{ℕ, Bool, true, false, nat_le, nat_lt, max, if◌then◌else◌, List, [], ◌∷◌, Option, Some, None}
+use Rattle.std.specs.Prelude.{ℕ, Bool, true, false, nat_le, nat_lt, max}
+use Rattle.std.specs.Prelude.{if◌then◌else◌, List, [], ◌∷◌, Option, Some, None}
 use Rattle.std.specs.List.{list_any}
 use Rattle.status_page.specs.declared.value.StationState.{StationState}
 use Rattle.status_page.specs.declared.value.StationState.TheVariants.{Heard, Waiting, Silent}

@@ -1,7 +1,8 @@
 //! How a value stands in a text: whatever it holds, it is a value there and no part of the language.
 ghost use Rattle.std.specs.Prelude.{◌≡◌, ◌∷◌, ◌++◌, [], OnOk};
 ghost use Rattle.std.specs.Prelude.{◌<◌};
-ghost use Rattle.status_page.specs.Escapes.{escaped, escaped_byte, hex_digit, html_byte, json_byte, label_byte, numbered};
+ghost use Rattle.status_page.specs.Escapes.{escaped, escaped_byte, hex_digit, html_byte};
+ghost use Rattle.status_page.specs.Escapes.{json_byte, label_byte, numbered};
 ghost use Rattle.status_page.specs.Escapes.{shown_byte};
 
 use std::alloc::AllocError;

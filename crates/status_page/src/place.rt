@@ -1,6 +1,7 @@
 //! What stands at a place of a template.
 ghost use Rattle.std.specs.Prelude.{◌≡◌, ◌++◌, OnOk, decimal};
-ghost use Rattle.status_page.specs.Places.{bucket_text, client_text, count_text, head_text, server_text, state_count_text, state_text};
+ghost use Rattle.status_page.specs.Places.{bucket_text, client_text, count_text, head_text};
+ghost use Rattle.status_page.specs.Places.{server_text, state_count_text, state_text};
 ghost use Rattle.status_page.specs.Places.{flag_text, limit_text, station_text, value_text};
 
 use crate::texts::{

@@ -1,7 +1,8 @@
 //! The texts of numbers, moments and lengths of time.
 ghost use Rattle.std.specs.Prelude.{◌≡◌, ◌+◌, ◌/◌, ◌%◌, ◌<◌, ◌++◌, OnOk, decimal};
 ghost use Rattle.status_page.specs.Texts.{address_text, age_text, bar_text, bars_text, digit_at, known_text, last_text};
-ghost use Rattle.status_page.specs.Texts.{micros_text, number_and, since_text, six_digits, span_text, start_known, start_text};
+ghost use Rattle.status_page.specs.Texts.{micros_text, number_and, since_text, six_digits};
+ghost use Rattle.status_page.specs.Texts.{span_text, start_known, start_text};
 ghost use Rattle.status_page.specs.Texts.{stop_seconds, stop_text, unix_seconds};
 ghost use Rattle.status_page.specs.Values.{busiest};
 

@@ -76,7 +76,8 @@ Finds r place c next found = (x : Held) → held_at r place ≡ Some x → found
 -- ---- a cursor that moves on
 
 -- What lies before the oldest record is passed.
-pub passed-raised : (r : RingValue) (next : ℕ) (c : Choice) (start : ℕ) → start ≡ max c.cursor.ring_place (first_place r)
+pub passed-raised : (r : RingValue) (next : ℕ) (c : Choice) (start : ℕ)
+    → start ≡ max c.cursor.ring_place (first_place r)
     → HasPassed r next c c.cursor → HasPassed r next c (at_place start c.cursor.ended)
 passed-raised r next c start raised so_far =
     let old : (place : ℕ) (x : Held) → place < start → held_at r place ≡ Some x → place < c.cursor.ring_place =

@@ -6,7 +6,10 @@ use Rattle.station_ring.specs.Rings.{RingValue}
 use Rattle.station_ring.specs.HeldRecords.{RingsValue}
 use Rattle.sl_lines.specs.declared.actions.Action.{Action}
 use Rattle.session_state.specs.declared.choices.Entry.{Entry}
-use Rattle.session_state.specs.NamedValues.{Choice, entry_of, ahead_of}
+use Rattle.session_state.specs.NamedValues.{Choice, ModeValue, entry_of, ahead_of}
+use Rattle.session_state.specs.NamedValues.ModeValue.{Uni, Multi}
+use Rattle.session_state.specs.Choices.{all_at_start, at_start, chosen_of}
+use Rattle.session_state.specs.Sessions.{SessionValue, but_for_cursors}
 pub use Rattle.session_state.proofs.NamedLemmas.{there as choice-there}
 use Rattle.transfer.specs.Cursors.{HasLooked, PassedIn, RestsIn}
 use Rattle.transfer.specs.Firsts.{is_unsent}
@@ -43,6 +46,16 @@ entry-at cs es i e same low is =
 
 pub same-length : (cs : List Choice) (es : List Entry) → map entry_of cs ≡ es → length cs ≡ length es
 same-length cs es same = sym (length-map cs entry_of) ∙ ap length same
+
+start-count : (mode : ModeValue) → length (chosen_of (all_at_start mode)) ≡ length (chosen_of mode)
+start-count (Uni ps) = refl
+start-count (Multi n) = length-map n.choices at_start
+
+-- Sessions that are the same but for their cursors have as many named stations.
+pub counts-same : (a b : SessionValue) → but_for_cursors a ≡ but_for_cursors b
+    → length (chosen_of a.mode) ≡ length (chosen_of b.mode)
+counts-same a b same =
+    sym (start-count a.mode) ∙ ap (λ (s : SessionValue). length (chosen_of s.mode)) same ∙ start-count b.mode
 
 pub item-is : (cs : List Choice) (i : ℕ) (c : Choice) → slice_get cs i ≡ Some c → c ≡ get_or cs i c
 item-is [] i c e = absurd cc

@@ -8,9 +8,9 @@ use Rattle.station_ring.specs.HeldRecords.{RingsValue, IsArrival}
 use Rattle.station_ring.specs.Rings.{RingValue, held_at}
 use Rattle.catalog.specs.Places.{station_at}
 use Rattle.sl_lines.specs.declared.actions.Action.{Action}
-use Rattle.session_state.specs.Choices.{action_value}
+use Rattle.session_state.specs.Choices.{action_value, chosen_of}
 use Rattle.session_state.specs.NamedValues.{Choice, ahead_of}
-use Rattle.session_state.specs.Sessions.{SessionValue, client_in}
+use Rattle.session_state.specs.Sessions.{SessionValue, client_in, sent_at}
 use Rattle.session_state.specs.declared.session.State.{State}
 use Rattle.session_state.specs.declared.session.State.TheVariants.{Transfer}
 use Rattle.station_ring.specs.declared.held.Held.{Held}
@@ -75,3 +75,9 @@ pub record IsHanded (config : Config) (h : List Arrival) (before after : Session
   pub bytes : out' ≡ out ++ packet
   pub size : length packet ≡ 520
   pub offers : client_in config h (record after { waiting = packet }) ≡ offered h (client_in config h before)
+
+-- So many packets were counted, and all of them for one of the named stations.
+pub record IsCounted (count : ℕ) (before after : SessionValue) : Type 0 where
+  pub index : ℕ
+  pub within : index < length (chosen_of before.mode)
+  pub sent : after.packets ≡ sent_at index count before.packets

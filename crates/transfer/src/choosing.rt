@@ -22,7 +22,7 @@ ghost use Rattle.station_ring.specs.HeldRecords.{RingsValue, holdings_of};
 ghost use Rattle.sl_lines.specs.declared.actions.Action.TheVariants.{Time};
 ghost use Rattle.session_state.specs.NamedValues.{Choice, entry_of};
 ghost use Rattle.session_state.specs.Choices.{all_at_start, chosen_of, request_in};
-ghost use Rattle.session_state.specs.Sessions.{client_in, but_for_cursors};
+ghost use Rattle.session_state.specs.Sessions.{client_in, but_for_cursors, sent_at};
 ghost use Rattle.session_state.specs.declared.session.State.TheVariants.{Starting, Transfer, Ending};
 ghost use Rattle.transfer.specs.declared.choosing.Chosen.TheVariants.{Packet, Nothing, Complete};
 ghost use Rattle.transfer.specs.Cursors.{ArePassed, HasPassed, HasPassedAll, IsReached, OfAll, RestsAt, RestsIn};
@@ -30,7 +30,7 @@ ghost use Rattle.transfer.specs.Searches.{at_place};
 ghost use Rattle.transfer.specs.Wanting.{facts_of};
 ghost use Rattle.transfer.specs.Firsts.{IsAhead};
 ghost use Rattle.transfer.specs.Sleeping.{HasNothing, MayCome, MoreMayCome, Sleeps, starts_after};
-ghost use Rattle.transfer.specs.Choosing.{answer_of, is_over_of, is_transfer, HoldsThere, IsAtCursor};
+ghost use Rattle.transfer.specs.Choosing.{answer_of, is_over_of, is_transfer, HoldsThere, IsAtCursor, IsCounted};
 
 use crate::overview::rest;
 use crate::searching::{SearchReached, search_from};
@@ -91,6 +91,7 @@ pub fn found_next<'a>(session: &mut Session, rings: &'a Rings, next: u64) -> Opt
     ensures none { HasPassedAll rings.now next session.old → result ≡ None
         → OfAll (HasNothing rings.now next) (chosen_of session.new.mode) }
     ensures looked { session.new.looked ≡ Some rings.now.arrivals }
+    ensures packets { session.new.packets ≡ session.old.packets }
 {
     match rest(session, rings, next) {
         Some(first) => candidate(session, first, rings),
@@ -210,6 +211,7 @@ fn pass_sent(session: &mut Session, found: Candidate<'_>, next: u64)
         → IsAtCursor rings (chosen_of session.old.mode) found.entry.index found.entry.ring.now found.entry.place
         → OfAll (RestsIn rings from) (chosen_of session.old.mode)
         → HasPassedAll rings next session.old → HasPassedAll rings next session.new }
+    ensures packets { session.new.packets ≡ sent_at found.entry.index 1 session.old.packets }
 {
     let cursor = cursor_after(session, found, next);
     session.move_cursor(found.index, cursor, 1);
@@ -227,6 +229,7 @@ pub fn go_past(session: &mut Session, rings: &Rings, found: Candidate<'_>) -> Se
     ensures capacity { 1 ≤ found.entry.ring.now.capacity }
     ensures passed { (next : ℕ) → next ≤ found.entry.held.now.stamp → session.old.looked ≡ Some rings.now.arrivals
         → OfAll (RestsIn rings.now next) (chosen_of session.old.mode) → ArePassed rings.now session.new }
+    ensures packets { session.new.packets ≡ sent_at found.entry.index 1 session.old.packets }
 {
     let _arrivals = rings.arrivals();
     found.ring.holds_its_last();
@@ -250,6 +253,7 @@ fn send(session: &mut Session, rings: &Rings, found: Candidate<'_>)
     ensures capacity { 1 ≤ found.entry.ring.now.capacity }
     ensures passed { (next : ℕ) → next ≤ found.entry.held.now.stamp → session.old.looked ≡ Some rings.now.arrivals
         → OfAll (RestsIn rings.now next) (chosen_of session.old.mode) → ArePassed rings.now session.new }
+    ensures packets { session.new.packets ≡ sent_at found.entry.index 1 session.old.packets }
 {
     let number = go_past(session, rings, found);
     session.put_packet(number, &found.held.bytes);
@@ -285,6 +289,8 @@ pub fn choose(session: &mut Session, config: &Config, rings: &Rings) -> Chosen
     ensures requests { all_at_start session.new.mode ≡ all_at_start session.old.mode }
     ensures settled { session.old.state ≢ Starting → session.new.state ≢ Starting }
     ensures places { session.new.places ≡ session.old.places }
+    ensures counted { result ≡ Packet → IsCounted 1 session.old session.new }
+    ensures uncounted { result ≢ Packet → session.new.packets ≡ session.old.packets }
 {
     let State::Transfer(next) = session.state() else {
         return Chosen::Nothing;
@@ -336,6 +342,7 @@ pub fn end_if_complete(session: &mut Session, rings: &Rings) -> Chosen
         → OfAll (IsReached rings.now) (chosen_of session.old.mode) → result ≡ Nothing →
         MoreMayCome rings.now (chosen_of session.old.mode) }
     ensures mode { session.new.mode ≡ session.old.mode }
+    ensures packets { session.new.packets ≡ session.old.packets }
 {
     if is_complete(session.choices(), rings) {
         session.finish();

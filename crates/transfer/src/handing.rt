@@ -15,7 +15,7 @@ ghost use Rattle.session_state.specs.declared.session.State.TheVariants.{Startin
 ghost use Rattle.transfer.specs.declared.choosing.Chosen.TheVariants.{Packet, Nothing, Complete};
 ghost use Rattle.transfer.specs.Cursors.{ArePassed, IsReached, OfAll};
 ghost use Rattle.transfer.specs.Sleeping.{Sleeps};
-ghost use Rattle.transfer.specs.Choosing.{answer_of, is_transfer};
+ghost use Rattle.transfer.specs.Choosing.{answer_of, is_transfer, IsCounted};
 ghost use Rattle.transfer.specs.Runs.{AreHanded};
 
 use crate::choosing::{Chosen, end_if_complete, found_next};
@@ -77,6 +77,8 @@ pub fn choose_into(
     ensures most { result.count ≤ most }
     ensures len { vec_len out.new ≡ vec_len out.old + result.count * 520 }
     ensures room { vec_capacity out.old ≤ vec_capacity out.new }
+    ensures counted { result.chosen ≡ Packet → IsCounted result.count session.old session.new }
+    ensures uncounted { result.chosen ≢ Packet → session.new.packets ≡ session.old.packets }
 {
     let State::Transfer(next) = session.state() else {
         return Handing {

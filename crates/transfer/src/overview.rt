@@ -56,6 +56,7 @@ fn cursor_of(session: &mut Session, i: usize, rings: &Rings, next: u64) -> Curso
     ensures same { but_for_cursors session.new ≡ but_for_cursors session.old }
     ensures mode { session.new.mode ≡ session.old.mode }
     ensures looked { session.new.looked ≡ session.old.looked }
+    ensures packets { session.new.packets ≡ session.old.packets }
 {
     let entry = session.choice(i);
     if entry.action.is_none() {
@@ -159,6 +160,7 @@ fn alone(session: &Session, rings: &Rings) -> Option<usize>
 fn catch_up(session: &mut Session, rings: &Rings, next: u64)
     ensures same { but_for_cursors session.new ≡ but_for_cursors session.old }
     ensures passed { HasPassedAll rings.now next session.old → HasPassedAll rings.now next session.new }
+    ensures packets { session.new.packets ≡ session.old.packets }
 {
     if session.has_looked_at(rings.arrivals()) {
         return;
@@ -179,6 +181,7 @@ pub(crate) fn rest(session: &mut Session, rings: &Rings, next: u64) -> Option<Fi
         → OfAll (RestsIn rings.now next) (chosen_of session.new.mode) }
     ensures first { LeadsSoFar rings.now (chosen_of session.new.mode) (length (chosen_of session.new.mode)) result }
     ensures looked { session.new.looked ≡ Some rings.now.arrivals }
+    ensures packets { session.new.packets ≡ session.old.packets }
 {
     catch_up(session, rings, next);
     let first = leader(session, rings, next);
@@ -205,6 +208,7 @@ fn leader(session: &mut Session, rings: &Rings, next: u64) -> Option<First>
         → OfAll (RestsIn rings.now next) (chosen_of session.new.mode) }
     ensures best { IsBest (chosen_of session.new.mode) result }
     ensures looked { session.new.looked ≡ Some rings.now.arrivals }
+    ensures packets { session.new.packets ≡ session.old.packets }
 {
     if session.has_looked_at(rings.arrivals()) {
         if let Overview::Fresh(first) = look_ahead(session, next) {
@@ -224,6 +228,7 @@ fn rest_all(session: &mut Session, rings: &Rings, next: u64) -> Option<First>
     ensures rest { OfAll (PassedIn rings.now next) (chosen_of session.old.mode)
         → OfAll (RestsIn rings.now next) (chosen_of session.new.mode) }
     ensures best { result ≡ best_of (chosen_of session.new.mode) }
+    ensures packets { session.new.packets ≡ session.old.packets }
 {
     let count = session.choices().len();
     let mut best = None;

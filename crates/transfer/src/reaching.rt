@@ -1,8 +1,8 @@
 //! How far a request comes in its ring when it looks again.
 //!
-//! A ring that is full lets its oldest record go for each new one, also if a request hasn't come to it yet, as that of a
-//! client that takes its bytes slowly. The request then goes on at the oldest record, and the session counts those that
-//! it lost (`start_of`).
+//! A ring that is full lets its oldest record go for each new one, also if a request hasn't come to it yet, as that of
+//! a client that takes its bytes slowly. The request then goes on at the oldest record, and the session counts those
+//! that it lost (`start_of`).
 ghost use Rattle.std.specs.Prelude.{◌≡◌, ◌≤◌, ◌<◌, ◌-◌, ℕ, length, max, slice_get, Some};
 ghost use Rattle.session_state.specs.Choices.{chosen_of};
 ghost use Rattle.session_state.specs.NamedValues.{Choice};
@@ -28,6 +28,7 @@ pub(crate) fn start_of(session: &mut Session, i: usize, ring: &Ring) -> u64
     ensures same { but_for_cursors session.new ≡ but_for_cursors session.old }
     ensures mode { session.new.mode ≡ session.old.mode }
     ensures looked { session.new.looked ≡ session.old.looked }
+    ensures packets { session.new.packets ≡ session.old.packets }
 {
     let place = session.choice(i).cursor.ring_place;
     let first = ring.first_place();
@@ -40,8 +41,8 @@ pub(crate) fn start_of(session: &mut Session, i: usize, ring: &Ring) -> u64
 }
 
 /// How far the request for the i-th named station comes that passes what it doesn't want: to the first record from a
-/// place on that it wants, else to the end. Mostly the record at the cursor was just sent and the next one is wanted, so
-/// that these two are looked at themselves, and only those after them by their briefs.
+/// place on that it wants, else to the end. Mostly the record at the cursor was just sent and the next one is wanted,
+/// so that these two are looked at themselves, and only those after them by their briefs.
 pub(crate) fn cursor_in(ring: &Ring, session: &Session, i: usize, next: u64, start: u64) -> Cursor
     requires index { i < length (chosen_of session.now.mode) }
     requires low { first_place ring.now ≤ start }

@@ -9,7 +9,7 @@ ghost use Rattle.protocol.specs.Pattern.{passes};
 ghost use Rattle.station_ring.specs.Rings.{held_at, number_at};
 ghost use Rattle.session_state.specs.NamedValues.{Choice, entry_of};
 ghost use Rattle.session_state.specs.Choices.{chosen_of};
-ghost use Rattle.session_state.specs.Sessions.{but_for_cursors};
+ghost use Rattle.session_state.specs.Sessions.{but_for_cursors, sent_at};
 ghost use Rattle.session_state.specs.declared.session.State.TheVariants.{Transfer};
 ghost use Rattle.transfer.specs.Choosing.{HoldsThere, IsAtCursor};
 ghost use Rattle.transfer.specs.Cursors.{ArePassed, OfAll, RestsIn};
@@ -206,6 +206,7 @@ pub(crate) fn pass_run(session: &mut Session, rings: &Rings, last: Candidate<'_>
         → OfAll (RestsIn rings.now q) (chosen_of session.old.mode)
         → HasSent rings.now (chosen_of session.old.mode) last.entry.index last.entry.ring.now last.entry.place
         last.entry.held.now → ArePassed rings.now session.new }
+    ensures packets { session.new.packets ≡ sent_at last.entry.index count session.old.packets }
 {
     let _arrivals = rings.arrivals();
     let next = last.held.stamp + 1;

@@ -1,4 +1,5 @@
-use Rattle.std.proofs.Common.{◌≡◌, ◌∙◌, ◌<◌, ◌≤◌, ◌+◌, ◌++◌, [], List, ap, ap₂, arith, get_or, length, map, subst, sym, take}
+use Rattle.std.proofs.Common.{◌≡◌, ◌∙◌, ◌<◌, ◌≤◌, ◌+◌, ◌++◌, [], List, ap, ap₂, arith}
+use Rattle.std.proofs.Common.{get_or, length, map, subst, sym, take}
 use Rattle.std.proofs.lemmas.List.{get_or-map, length-map, length-take-le, take-map}
 use Rattle.toml.specs.View.{view}
 use Rattle.catalog.specs.Groups.{groups_value}

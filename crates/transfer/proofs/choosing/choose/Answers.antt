@@ -1,9 +1,10 @@
-use Rattle.std.proofs.Common.{◌≡◌, ◌∙◌, None, ap, refl, sym, subst, filter_map}
+use Rattle.std.proofs.Common.{◌≡◌, ◌∙◌, None, ap, arith, refl, sym, subst, filter_map}
 use Rattle.std.specs.List.{list_all}
 use Rattle.protocol.specs.History.{is_over, next}
 use Rattle.protocol.specs.Client.{offered}
 use Rattle.session_state.specs.Choices.{chosen_of, request_in}
-use Rattle.session_state.specs.Sessions.{SessionValue}
+use Rattle.session_state.specs.Sessions.{SessionValue, sent_at}
+use Rattle.transfer.proofs.EntryLemmas.{counts-same}
 use Rattle.transfer.specs.Choosing.{answer_of}
 use Rattle.transfer.proofs.StartLemmas.{client-same, requests-same}
 use Rattle.transfer.proofs.PassedLemmas.{ended-passes, ended-reached, passed-all, same-next}
@@ -21,6 +22,15 @@ returns-in-Some-clause-client c = λ transfers passed h holds.
     c.codes_are_distinct.ensures holds (sym c.in-Transfer.ensures) c.requires c.found_next.ensures.same
     (c.in-Some.ensures.position before c.args.config.now h holds) c.in-Some.ensures.held c.send.ensures.capacity
     c.send.ensures.session
+
+pub returns-in-Some-clause-counted : goal.returns-in-Some-clause-counted
+returns-in-Some-clause-counted c = λ sent.
+    let count = counts-same c.found_next.new.session c.args.session.now c.found_next.ensures.same in
+    record {
+      index = c.in-Some.found.index;
+      within = omega (arith, c.in-Some.ensures.index, count);
+      sent = c.send.ensures.packets ∙ ap (sent_at c.in-Some.found.index 1) c.found_next.ensures.packets;
+    }
 
 pub returns-in-Some-clause-answer : goal.returns-in-Some-clause-answer
 returns-in-Some-clause-answer c = λ h q holds state passed.

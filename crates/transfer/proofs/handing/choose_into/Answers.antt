@@ -4,7 +4,8 @@ use Rattle.protocol.specs.History.{is_over, next}
 use Rattle.protocol.specs.Client.{offered}
 use Rattle.session_state.specs.declared.session.State.TheVariants.{Transfer}
 use Rattle.session_state.specs.Choices.{chosen_of, request_in}
-use Rattle.session_state.specs.Sessions.{SessionValue, but_for_cursors}
+use Rattle.session_state.specs.Sessions.{SessionValue, but_for_cursors, sent_at}
+use Rattle.transfer.proofs.EntryLemmas.{counts-same}
 use Rattle.transfer.specs.Choosing.{answer_of}
 use Rattle.transfer.specs.Runs.{AreHanded}
 use Rattle.transfer.proofs.StartLemmas.{client-same, requests-same}
@@ -35,6 +36,17 @@ returns-in-Some-clause-same c = λ chosen.
     c.found_next.ensures.same
     ∙ ap (λ t. but_for_cursors (record (c.args.session.now) { state = t }))
     (sym (ap (λ (s : SessionValue). s.state) c.pass_run.ensures.session))
+
+pub returns-in-Some-clause-counted : goal.returns-in-Some-clause-counted
+returns-in-Some-clause-counted c = λ sent.
+    let count = counts-same c.found_next.new.session c.args.session.now c.found_next.ensures.same in
+    let last = c.hand_run-run.result.last in
+    record {
+      index = last.index;
+      within = omega (arith, c.hand_run-run.ensures.index, c.in-Some.ensures.index, count);
+      sent = c.pass_run.ensures.packets
+          ∙ ap (sent_at last.index c.hand_run-run.result.count) c.found_next.ensures.packets;
+    }
 
 pub returns-in-Some-clause-answer : goal.returns-in-Some-clause-answer
 returns-in-Some-clause-answer c = λ h q holds state passed.

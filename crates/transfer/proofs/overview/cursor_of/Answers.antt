@@ -30,7 +30,8 @@ returns-in-Some-clause-cursor c = λ x at passed.
     rests-ring c.args.rings.now c.args.next
     (record x { cursor = c.cursor_in.result }) c.in-Some.ring.now asked.0 action there
     (rests-moved c.in-Some.ring.now c.args.next x c.cursor_in.result
-    (c.cursor_in.ensures x (subst (λ m. slice_get (chosen_of m) c.args.i ≡ Some x) (sym c.start_of-start.ensures.mode) at)
+    (c.cursor_in.ensures x
+    (subst (λ m. slice_get (chosen_of m) c.args.i ≡ Some x) (sym c.start_of-start.ensures.mode) at)
     (c.start_of-start.ensures.place x at)
     ((passed.passed c.in-Some.ring.now asked.0 there action).passed)))
 

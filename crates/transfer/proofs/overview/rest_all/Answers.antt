@@ -14,6 +14,7 @@ loop-i-init c = (
   omega arith,
   omega arith,
   sym (same-length _ _ (sym c.choices-count.ensures)),
+  refl,
 )
 
 pub look-requires : goal.look-requires
@@ -85,6 +86,7 @@ loop-i-preserved c =
       omega (arith, after, c.loop-i.invariant.2),
       omega (arith, within, count, c.loop-i.invariant.4),
       c.loop-i.invariant.4,
+      c.move_cursor.ensures.packets ∙ counted.packets ∙ c.loop-i.invariant.5,
     )
 
 pub returns-clause-same : goal.returns-clause-same

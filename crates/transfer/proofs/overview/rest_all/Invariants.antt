@@ -12,3 +12,4 @@ invariant-loop-i l =
     → RestsIn l.rings l.next c) l.from l.session l.fn.session
     × (l.best ≡ best_of (take l.from (chosen_of l.session.mode)))
     × (l._i ≤ l.from) × (l.from ≤ l.count) × (l.count ≡ length (chosen_of l.fn.session.mode))
+    × (l.session.packets ≡ l.fn.session.packets)

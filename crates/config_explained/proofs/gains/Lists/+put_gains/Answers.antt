@@ -1,5 +1,6 @@
 -- The networks of both halves, one after the other.
-use Rattle.std.proofs.Common.{◌≡◌, ◌<◌, ◌-◌, ◌*◌, ◌%◌, ◌^◌, ◌++◌, ℕ, List, OnOk, arith, sym, ap, subst, ◌∙◌, append_assoc, bit_and}
+use Rattle.std.proofs.Common.{◌≡◌, ◌<◌, ◌-◌, ◌*◌, ◌%◌, ◌^◌, ◌++◌, ℕ, List, OnOk, arith}
+use Rattle.std.proofs.Common.{sym, ap, subst, ◌∙◌, append_assoc, bit_and}
 use Rattle.std.proofs.lemmas.Nat.{one_shl}
 use Rattle.protocol.specs.Access.{Token}
 use Rattle.config_explained.specs.Coverage.{with, without}
