@@ -42,6 +42,11 @@ MISTAKES = [
     ("turns that are taken for seconds", SERVE + "--reread 60 --report 90", 0, ["seedlinkd: --reread 60 counts turns: 60s is by time\n", "seedlinkd: --report 90 counts turns: 90s is by time\n"]),
     ("a list that a variable leaves empty", [*SERVE.split(), "--feed-from", ""], 0, ["--feed-from has no entry: nobody is admitted\n"]),
     ("a list of everybody that looks like a network", SERVE + "--feed-from 10.0.0.0/0", 0, ["10.0.0.0/0, --feed-from: everybody is admitted\n"]),
+    ("an access of all that stands below the last station", "view below.toml", 0,
+     ["seedlinkd: access, station 2 GE WLF: it is the one list; that of all stations stands above the first [[station]]\n"]),
+    ("the same when serving", SERVE.replace("c.toml", "below.toml"), 0, ["access, station 2 GE WLF: it is the one list; "]),
+    ("an address with zeros before its numbers", SERVE.replace("c.toml", "zeros.toml"), 0,
+     ["seedlinkd: access 010.000.000.007: a number that begins with 0 is decimal here, and not octal\n"]),
     ("feeds from everybody", "serve c.toml --listen HERE:0 --feed 0.0.0.0:0 --turns 1", 0, ["without --feed-from everybody may feed at 0.0.0.0:0\n"]),
     ("a status for this machine alone", SERVE + "--status 192.0.2.1:0", 1, ["without --status-from this machine alone may ask at 192.0.2.1:0\n", "46 Listen\n"]),
     ("a network of which there is no such mask", "view c.toml 10.0.0.0/33", 1,
@@ -161,6 +166,10 @@ def long_record():
 
 def make_files():
     kit.write("c.toml", CONFIG)
+    stations = CONFIG.replace('access = "10.0.0.0/8"\n', "").replace('access = "0.0.0.0/0"\n', "")
+    below = stations + stations[stations.index("[[") :].replace("APE", "WLF") + 'access = "10.0.0.0/8"\n'
+    kit.write("below.toml", below)
+    kit.write("zeros.toml", CONFIG.replace('"10.0.0.0/8"', '"010.000.000.007"'))
     kit.write("empty", "")
     kit.write("many.mseed", kit.bytes_of(kit.RECORDS))
     kit.write("one.mseed", record(1, "APE"))

@@ -13,6 +13,7 @@ mod OpenedLemmas
 mod UserLemmas
 mod KeyLemmas
 mod RemarkLemmas
+mod AloneLemmas
 mod CoverageLemmas
 mod PartLemmas
 mod ChangeLemmas

@@ -1,6 +1,6 @@
 -- Entries of access lists that admit something else than their text looks like, and the lines that tell it.
-use Rattle.std.specs.Prelude.{ℕ, zero, suc, ◌+◌, ◌==◌, ◌&&◌, ◌||◌, Bool, if◌then◌else◌, List, [], ◌∷◌, ◌++◌, bit_and}
-use Rattle.std.specs.Prelude.{codes, flat_map, not, true, Option, Some, None, option_and_then}
+use Rattle.std.specs.Prelude.{ℕ, zero, suc, ◌+◌, ◌-◌, ◌==◌, ◌&&◌, ◌||◌, nat_le, nat_lt, Bool, false, if◌then◌else◌, List, [], ◌∷◌, ◌++◌, bit_and}
+use Rattle.std.specs.Prelude.{codes, flat_map, is_some, length, not, slice_get, true, Option, Some, None, option_and_then}
 use Rattle.std.specs.Result.{result_ok}
 use Rattle.std.specs.Str.{bytes_eq}
 use Rattle.toml.specs.Data.{Members, no_members, member, as_str}
@@ -15,7 +15,7 @@ use Rattle.config_explained.specs.Findings.{text_at}
 use Rattle.config_explained.specs.Unknown.{Whose, owner_words}
 use Rattle.config_explained.specs.Unknown.Whose.{TheGroup, TheServer, TheStation}
 use Rattle.config_explained.specs.declared.remark.Remark.{Remark}
-use Rattle.config_explained.specs.declared.remark.Remark.TheVariants.{Everybody, Nobody, Scattered, Outside}
+use Rattle.config_explained.specs.declared.remark.Remark.TheVariants.{Everybody, Nobody, Outside, Padded, Scattered}
 use Rattle.config_explained.specs.declared.remark.Remarked.{Remarked}
 use Rattle.config_explained.specs.declared.remark.Remarked.TheVariants.{EachEntry, OddEntries}
 
@@ -38,11 +38,33 @@ remark_of n =
     remark_by (n.mask == 0) ((n.address == 0) && (n.mask == ones 32)) (has_leading_ones 32 n.mask)
     (bit_and n.address n.mask == n.address)
 
+abbrev pub is_digit : ℕ → Bool
+is_digit x = nat_le 48 x && nat_le x 57
+
+abbrev pub begins_with_digit : List ℕ → Bool
+begins_with_digit [] = false
+begins_with_digit (x ∷ rest) = is_digit x
+
+-- a number of more than one digit begins with 0; a digit stands before the text if `inside`
+abbrev pub has_padding : (inside : Bool) → List ℕ → Bool
+has_padding inside [] = false
+has_padding inside (x ∷ rest) =
+    (not inside && (x == 48) && begins_with_digit rest) || has_padding (is_digit x) rest
+
+abbrev pub or_padded : (entry : List ℕ) → Option Remark → Option Remark
+or_padded entry (Some r) = Some r
+or_padded entry None = if has_padding false entry then Some Padded else None
+
+-- what an entry is that spells a network
+abbrev pub remark_in : (entry : List ℕ) → Token → Option Remark
+remark_in entry n = or_padded entry (remark_of n)
+
 abbrev pub remark_words : Remark → List ℕ
 remark_words Everybody = codes "everybody is admitted"
 remark_words Nobody = codes "this address is nobody's"
 remark_words Scattered = codes "the ones of the mask are not on the left"
 remark_words Outside = codes "the bits of the address outside the mask don't count"
+remark_words Padded = codes "a number that begins with 0 is decimal here, and not octal"
 
 -- the line of an entry, if there is something to say
 abbrev pub remark_line : Whose → List ℕ → Option Remark → List ℕ
@@ -51,7 +73,7 @@ remark_line o entry (Some r) =
     codes "seedlinkd: access " ++ entry ++ owner_words o ++ codes ": " ++ remark_words r ++ 10 ∷ []
 
 abbrev pub entry_remark : Whose → List ℕ → List ℕ
-entry_remark o entry = remark_line o entry (option_and_then remark_of (result_ok (token_of entry)))
+entry_remark o entry = remark_line o entry (option_and_then (remark_in entry) (result_ok (token_of entry)))
 
 -- ---- all of them
 
@@ -92,8 +114,35 @@ abbrev pub groups_remarks_if : Remarked → Option Members → List ℕ
 groups_remarks_if which None = []
 groups_remarks_if which (Some groups) = groups_remarks which groups
 
--- the lines of the server's list, of the groups and of the stations' own lists
+-- ---- a list that the last station alone has
+
+-- the station at a place has a list of its own
+abbrev pub has_list : Members → ℕ → Bool
+has_list keys place = is_some (text_at keys (step.Station place station.Access))
+
+-- none of the first stations has one
+abbrev pub none_has_list : Members → ℕ → Bool
+none_has_list keys zero = true
+none_has_list keys (suc place) = if has_list keys place then false else none_has_list keys place
+
+-- it has one, while none before it has one, nor the server
+abbrev pub is_last_alone : Members → ℕ → Bool
+is_last_alone keys place =
+    nat_lt 0 place && not (is_some (text_at keys step.Access)) && has_list keys place && none_has_list keys place
+
+abbrev pub alone_line : Members → ℕ → Option Station → List ℕ
+alone_line keys place None = []
+alone_line keys place (Some s) =
+    if is_last_alone keys place
+    then codes "seedlinkd: access" ++ owner_words (TheStation (place + 1) s)
+    ++ codes ": it is the one list; that of all stations stands above the first [[station]]\n"
+    else []
+
+abbrev pub last_alone_line : Members → List Station → List ℕ
+last_alone_line keys ss = alone_line keys (length ss - 1) (slice_get ss (length ss - 1))
+
+-- the lines of the server's list, of the groups, of the stations' own lists, and of the last one that is alone
 abbrev pub remarks_text : Remarked → Members → List Station → List ℕ
 remarks_text which keys ss =
     remarks_if which TheServer (text_at keys step.Access) ++ groups_remarks_if which (groups_of keys)
-    ++ remarks_from which keys 0 ss
+    ++ remarks_from which keys 0 ss ++ last_alone_line keys ss

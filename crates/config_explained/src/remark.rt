@@ -1,5 +1,5 @@
 //! Entries of access lists that admit something else than their text looks like.
-ghost use Rattle.std.specs.Prelude.{◌≡◌, ◌≤◌, ◌++◌, ◌<◌, ◌^◌, IfOk, OnOk, map, option_map};
+ghost use Rattle.std.specs.Prelude.{◌≡◌, ◌≤◌, ◌++◌, ◌<◌, ◌^◌, IfOk, OnOk, Some, length, map, option_map};
 ghost use Rattle.config_explained.specs.ConfigTexts.{keys_of};
 ghost use Rattle.toml.specs.Data.{as_str};
 ghost use Rattle.toml.specs.View.{table_view, view};
@@ -8,6 +8,8 @@ ghost use Rattle.config_explained.specs.Unknown.Whose.{TheGroup, TheOption};
 ghost use Rattle.protocol.specs.Catalog.{stations_of};
 ghost use Rattle.access_list.specs.Tokens.{is_separator};
 ghost use Rattle.config_explained.specs.Remarks.{entry_remark, has_leading_ones, list_remarks, remark_line, remark_of};
+ghost use Rattle.config_explained.specs.Remarks.{begins_with_digit, has_padding, is_digit, remark_in};
+ghost use Rattle.config_explained.specs.Remarks.{alone_line, has_list, is_last_alone, last_alone_line, none_has_list};
 ghost use Rattle.config_explained.specs.Remarks.{is_looked_at, remark_if, remark_words, remarks_from, remarks_if};
 ghost use Rattle.config_explained.specs.Remarks.{remarks_text};
 ghost use Rattle.config_explained.specs.declared.remark.Remarked.TheVariants.{EachEntry};
@@ -35,6 +37,8 @@ pub enum Remark {
     Scattered,
     /// Its address has bits outside its mask, as `10.0.0.7/8`.
     Outside,
+    /// A number of it begins with 0, as in `010.000.000.007`, which other programs read in base 8.
+    Padded,
 }
 
 /// Whether a mask has at most so many ones, all on the left.
@@ -46,6 +50,37 @@ fn has_leading_ones(count: u32, mask: u32) -> bool
         return mask == ones(0);
     }
     mask == ones(count) || has_leading_ones(count - 1, mask)
+}
+
+/// Whether a text begins with a digit.
+fn begins_with_digit(text: &[u8]) -> bool
+    ensures { result ≡ begins_with_digit text.now }
+{
+    match text.first() {
+        Some(byte) => is_digit(*byte),
+        None => false,
+    }
+}
+
+/// Whether a text has a number of more than one digit that begins with 0. What stands before the text is a digit if
+/// `inside` says so.
+fn has_padding(inside: bool, text: &[u8]) -> bool
+    ensures { result ≡ has_padding inside text.now }
+{
+    let Some((byte, rest)) = text.split_first() else {
+        return false;
+    };
+    if !inside && *byte == b'0' && begins_with_digit(rest) {
+        return true;
+    }
+    has_padding(is_digit(*byte), rest)
+}
+
+/// Whether a byte is a digit.
+fn is_digit(byte: u8) -> bool
+    ensures { result ≡ is_digit byte }
+{
+    b'0' <= byte && byte <= b'9'
 }
 
 /// Which entries are looked at.
@@ -87,6 +122,17 @@ impl Remark {
         }
     }
 
+    /// What is to be said of an entry that spells a network, if anything.
+    fn of_entry(entry: &[u8], network: Network) -> Option<Remark>
+        ensures { result ≡ remark_in entry.now network }
+    {
+        match Remark::of(network) {
+            Some(remark) => Some(remark),
+            None if has_padding(false, entry) => Some(Remark::Padded),
+            None => None,
+        }
+    }
+
     /// The words that say it.
     fn words(self) -> &'static [u8]
         ensures { result.now ≡ remark_words self }
@@ -96,6 +142,7 @@ impl Remark {
             Remark::Nobody => b"this address is nobody's",
             Remark::Scattered => b"the ones of the mask are not on the left",
             Remark::Outside => b"the bits of the address outside the mask don't count",
+            Remark::Padded => b"a number that begins with 0 is decimal here, and not octal",
         }
     }
 }
@@ -126,7 +173,7 @@ fn put_entry(text: &mut Vec<u8>, entry: &[u8], owner: Owner<'_>) -> Result<(), A
     ensures { OnOk result (text.new.items ≡ text.old.items ++ entry_remark (whose owner.entry) entry.now) }
 {
     let remark = match Network::parse(entry) {
-        Some(network) => Remark::of(network),
+        Some(network) => Remark::of_entry(entry, network),
         None => None,
     };
     put_line(text, entry, remark, owner)
@@ -261,11 +308,81 @@ fn put_stations(
     Ok(())
 }
 
+/// Whether a station has a list of its own.
+fn has_list(table: &Table, place: usize) -> bool
+    requires { place < 2 ^ 63 }
+    ensures { result ≡ has_list (table_view table.now) place }
+{
+    text_at(table, Step::Station(place, StationStep::Access)).is_some()
+}
+
+/// Whether none of the first stations has a list of its own.
+#[tactic(auto, using(crate::proofs::AloneLemmas::alone_lemmas))]
+fn none_has_list(table: &Table, count: usize) -> bool
+    requires { count < 2 ^ 63 }
+    ensures { result ≡ none_has_list (table_view table.now) count }
+{
+    for place in 0..count {
+        if has_list(table, place) {
+            return false;
+        }
+    }
+    true
+}
+
+/// Whether the station at a place has a list of its own, while none before it has one, nor the server.
+fn is_last_alone(table: &Table, place: usize) -> bool
+    requires { place < 2 ^ 63 }
+    ensures { result ≡ is_last_alone (table_view table.now) place }
+{
+    place > 0
+        && text_at(table, Step::Access).is_none()
+        && has_list(table, place)
+        && none_has_list(table, place)
+}
+
+/// The line of the last station, if it alone has a list.
+fn put_alone(
+    text: &mut Vec<u8>,
+    table: &Table,
+    place: usize,
+    station: &Station,
+) -> Result<(), AllocError>
+    requires { place < 2 ^ 63 }
+    ensures { OnOk result (text.new.items ≡ text.old.items
+        ++ alone_line (table_view table.now) place (Some station.now.station)) }
+{
+    if !is_last_alone(table, place) {
+        return Ok(());
+    }
+    put(text, b"seedlinkd: access")?;
+    Owner::Station(place + 1, station).put_words(text)?;
+    put(
+        text,
+        b": it is the one list; that of all stations stands above the first [[station]]\n",
+    )?;
+    Ok(())
+}
+
+/// The line of a list that the last station alone has, while neither the server has one nor another station: TOML takes
+/// a key that stands below a station's for the station's.
+fn put_last_alone(text: &mut Vec<u8>, table: &Table, stations: &[Station]) -> Result<(), AllocError>
+    requires { length stations.now < 2 ^ 63 }
+    ensures { OnOk result (text.new.items ≡ text.old.items
+        ++ last_alone_line (table_view table.now) (map (λ e. e.station) stations.now)) }
+{
+    match stations.last() {
+        Some(last) => put_alone(text, table, stations.len() - 1, last),
+        None => Ok(()),
+    }
+}
+
 /// The entries of a configuration's access lists that admit something else than their text looks like, a line each:
 /// first those of the server's list, then those of each group, by the bytes of their names, and then those of each
 /// station's own, with its number, from 1 on, and its codes. An entry is named if it admits everybody, if it is
-/// `0.0.0.0` alone, if the ones of its mask are not on the left, or if its address has bits outside its mask; of odd
-/// entries alone, not if it is `0.0.0.0/0`. Only memory can lack.
+/// `0.0.0.0` alone, if the ones of its mask are not on the left, if its address has bits outside its mask, or if a
+/// number of it begins with 0; of odd entries alone, not if it is `0.0.0.0/0`. The last line is that of a list that the
+/// last station alone has, of two or more. Only memory can lack.
 pub fn remarks(alloc: Global, which: Remarked, read: &ConfigText) -> Result<Vec<u8>, AllocError>
     ensures { IfOk result (λ lines.
         lines.items ≡ remarks_text which (keys_of read.now.text) (stations_of read.now.config)) }
@@ -280,6 +397,7 @@ pub fn remarks(alloc: Global, which: Remarked, read: &ConfigText) -> Result<Vec<
     )?;
     put_groups_if(&mut lines, which, Groups::of(table).table())?;
     put_stations(&mut lines, which, read.config().stations(), table)?;
+    put_last_alone(&mut lines, table, read.config().stations())?;
     Ok(lines)
 }
 
