@@ -1,4 +1,1 @@
-pub mod Building
-pub mod Commands
-pub mod Faults
 pub mod Jobs

@@ -1,29 +1,37 @@
 //! Numbers, lengths of time and periods that options have.
-ghost use Rattle.std.specs.Prelude.{◌≡◌, ◌≤◌, ◌*◌};
-ghost use Rattle.clap.specs.Words.{found_of, rows_of};
-ghost use Rattle.command_line.specs.Jobs.{number_in, number_of, period_in, period_of, seconds_in, seconds_in_unit};
-ghost use Rattle.command_line.specs.Jobs.{seconds_of, time_of, within_most};
+ghost use Rattle.std.specs.Prelude.{◌≡◌, ◌≤◌, ◌*◌, IfSome};
+ghost use Rattle.command_line.specs.Jobs.{InRange, IsOften, in_range, number_of, period_of, seconds_in_unit, seconds_of};
+ghost use Rattle.command_line.specs.Jobs.{time_of};
 
 use crate::words::text_at;
 use clap::ArgMatches;
 use text_parts::decimal;
 use text_parts::period::Period;
 
+/// A number, if it is 1 to 1,000,000,000.
+fn in_range(number: usize) -> Option<usize>
+    ensures value { result ≡ in_range number }
+    ensures range { InRange result }
+{
+    if number < 1 || number > 1_000_000_000 {
+        None
+    } else {
+        Some(number)
+    }
+}
+
 /// The number from 1 to 1,000,000,000 that a text spells.
 fn number_of(text: &[u8]) -> Option<usize>
-    ensures { result ≡ number_of text.now }
+    ensures value { result ≡ number_of text.now }
+    ensures range { InRange result }
 {
-    let number = decimal::number(text, 1, 10)?;
-    if number < 1 || number > 1_000_000_000 {
-        return None;
-    }
-    Some(number)
+    in_range(decimal::number(text, 1, 10)?)
 }
 
 /// The number that an option has: the inner None where it is left out, and None where the text is no number of its
 /// range.
 pub fn number_in<'a>(arguments: &ArgMatches<'a>, name: &str) -> Option<Option<usize>>
-    ensures { result ≡ number_in name.now (rows_of (found_of arguments.now)) }
+    ensures { IfSome result InRange }
 {
     let Some(text) = text_at(arguments, name) else {
         return Some(None);
@@ -46,22 +54,20 @@ fn seconds_in_unit(unit: u8) -> Option<usize>
     }
 }
 
-/// How many seconds so many units are, if they are not more than 1,000,000,000.
+/// How many seconds so many units are, if they are 1 to 1,000,000,000.
 fn scaled(number: usize, unit: usize) -> Option<usize>
     requires number { number ≤ 1000000000 }
     requires unit { unit ≤ 3600 }
-    ensures { result ≡ within_most (number * unit) }
+    ensures value { result ≡ in_range (number * unit) }
+    ensures range { InRange result }
 {
-    let seconds = number * unit;
-    if seconds > 1_000_000_000 {
-        return None;
-    }
-    Some(seconds)
+    in_range(number * unit)
 }
 
 /// The seconds that a text with a unit at its end spells: `90s`, `10m` or `2h`.
 fn time_of(text: &[u8]) -> Option<usize>
-    ensures { result ≡ time_of text.now }
+    ensures value { result ≡ time_of text.now }
+    ensures range { InRange result }
 {
     let (unit, digits) = text.split_last()?;
     let unit = seconds_in_unit(*unit)?;
@@ -71,7 +77,8 @@ fn time_of(text: &[u8]) -> Option<usize>
 
 /// The seconds that a text spells, with a unit or without: `90`, `90s`, `10m` or `2h`.
 fn seconds_of(text: &[u8]) -> Option<usize>
-    ensures { result ≡ seconds_of text.now }
+    ensures value { result ≡ seconds_of text.now }
+    ensures range { InRange result }
 {
     match number_of(text) {
         Some(number) => Some(number),
@@ -81,7 +88,7 @@ fn seconds_of(text: &[u8]) -> Option<usize>
 
 /// The seconds that an option has: the inner None where it is left out, and None where the text spells none.
 pub fn seconds_in<'a>(arguments: &ArgMatches<'a>, name: &str) -> Option<Option<usize>>
-    ensures { result ≡ seconds_in name.now (rows_of (found_of arguments.now)) }
+    ensures { IfSome result InRange }
 {
     let Some(text) = text_at(arguments, name) else {
         return Some(None);
@@ -94,7 +101,8 @@ pub fn seconds_in<'a>(arguments: &ArgMatches<'a>, name: &str) -> Option<Option<u
 
 /// How often a text says: `N` is every so many turns, and with a unit, as `60s`, every so many seconds.
 fn period_of(text: &[u8]) -> Option<Period>
-    ensures { result ≡ period_of text.now }
+    ensures value { result ≡ period_of text.now }
+    ensures range { IsOften result }
 {
     match number_of(text) {
         Some(number) => Some(Period::Turns(number)),
@@ -107,7 +115,7 @@ fn period_of(text: &[u8]) -> Option<Period>
 
 /// How often an option says: the inner None where it is left out, and None where the text does not say it.
 pub fn period_in<'a>(arguments: &ArgMatches<'a>, name: &str) -> Option<Option<Period>>
-    ensures { result ≡ period_in name.now (rows_of (found_of arguments.now)) }
+    ensures { IfSome result IsOften }
 {
     let Some(text) = text_at(arguments, name) else {
         return Some(None);

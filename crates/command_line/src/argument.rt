@@ -1,7 +1,4 @@
 //! What an argument of a command is, as `clap` has it.
-ghost use Rattle.std.specs.Prelude.{◌≡◌, codes, false};
-ghost use Rattle.clap.specs.Words.{new_rule, rule_of};
-ghost use Rattle.command_line.specs.Commands.{flag_rule, option, rule_by, several, verbose_rule, wanted};
 
 use clap::{Arg, ArgAction};
 use std::alloc::Global;
@@ -26,42 +23,27 @@ pub enum Argument<'a> {
 }
 
 /// A text that has to be there.
-fn wanted<'a>(alloc: Global, name: &'a str, help: &'a str) -> Arg<'a>
-    ensures rule { rule_of result ≡ wanted name.entry.now }
-    ensures own { result.global ≡ false }
-{
+fn wanted<'a>(alloc: Global, name: &'a str, help: &'a str) -> Arg<'a> {
     Arg::new(alloc, name).required(true).help(help)
 }
 
 /// A text that may be left out.
-fn spare<'a>(alloc: Global, name: &'a str, help: &'a str) -> Arg<'a>
-    ensures rule { rule_of result ≡ new_rule name.entry.now }
-    ensures own { result.global ≡ false }
-{
+fn spare<'a>(alloc: Global, name: &'a str, help: &'a str) -> Arg<'a> {
     Arg::new(alloc, name).help(help)
 }
 
 /// One or more texts that have to be there.
-fn several_wanted<'a>(alloc: Global, name: &'a str, help: &'a str) -> Arg<'a>
-    ensures rule { rule_of result ≡ several (wanted name.entry.now) }
-    ensures own { result.global ≡ false }
-{
+fn several_wanted<'a>(alloc: Global, name: &'a str, help: &'a str) -> Arg<'a> {
     wanted(alloc, name, help).num_args(1..)
 }
 
 /// One or more texts that may be left out.
-fn several_spare<'a>(alloc: Global, name: &'a str, help: &'a str) -> Arg<'a>
-    ensures rule { rule_of result ≡ several (new_rule name.entry.now) }
-    ensures own { result.global ≡ false }
-{
+fn several_spare<'a>(alloc: Global, name: &'a str, help: &'a str) -> Arg<'a> {
     spare(alloc, name, help).num_args(1..)
 }
 
 /// A flag `--name`.
-fn flag<'a>(alloc: Global, name: &'a str, help: &'a str) -> Arg<'a>
-    ensures rule { rule_of result ≡ flag_rule name.entry.now }
-    ensures own { result.global ≡ false }
-{
+fn flag<'a>(alloc: Global, name: &'a str, help: &'a str) -> Arg<'a> {
     Arg::new(alloc, name)
         .long(name)
         .action(ArgAction::SetTrue)
@@ -75,10 +57,7 @@ fn option<'a>(
     value: &'a str,
     required: bool,
     help: &'a str,
-) -> Arg<'a>
-    ensures rule { rule_of result ≡ option required name.entry.now }
-    ensures own { result.global ≡ false }
-{
+) -> Arg<'a> {
     Arg::new(alloc, name)
         .long(name)
         .value_name(value)
@@ -87,10 +66,7 @@ fn option<'a>(
 }
 
 /// The flag `-v` or `--verbose`, which each command has.
-pub fn verbose<'a>(alloc: Global) -> Arg<'a>
-    ensures rule { rule_of result ≡ verbose_rule }
-    ensures own { result.global ≡ false }
-{
+pub fn verbose<'a>(alloc: Global) -> Arg<'a> {
     Arg::new(alloc, "verbose")
         .long("verbose")
         .short('v')
@@ -100,10 +76,7 @@ pub fn verbose<'a>(alloc: Global) -> Arg<'a>
 
 impl<'a> Argument<'a> {
     /// The argument of a row.
-    pub fn build(self, alloc: Global) -> Arg<'a>
-        ensures rule { rule_of result ≡ rule_by self.entry }
-        ensures own { result.global ≡ false }
-    {
+    pub fn build(self, alloc: Global) -> Arg<'a> {
         match self {
             Argument::Wanted(name, help) => wanted(alloc, name, help),
             Argument::Spare(name, help) => spare(alloc, name, help),

@@ -1,6 +1,4 @@
 //! The table of all faults, which `--help faults` prints.
-ghost use Rattle.std.specs.Prelude.{◌≡◌, map, string_bytes};
-ghost use Rattle.command_line.specs.Faults.{asks_for_faults};
 
 use protocol::reason::Reason;
 use std::alloc::{AllocError, Global};
@@ -10,9 +8,7 @@ const HEAD: &str =
     "A fault is the line `seedlinkd: N Name` on standard error, with status 1; -v explains it:\n\n";
 
 /// Whether the words ask for the table: `--help faults`, or `-h faults`, behind the program's name and nothing else.
-pub fn asks_for_faults(words: &[String]) -> bool
-    ensures { result ≡ asks_for_faults (map string_bytes words.entry.now) }
-{
+pub fn asks_for_faults(words: &[String]) -> bool {
     match words {
         [_program, option, topic] => {
             (option.as_str() == "--help" || option.as_str() == "-h") && topic.as_str() == "faults"

@@ -1,17 +1,9 @@
-//! The words of the command line.
-ghost use Rattle.std.specs.Prelude.{◌≡◌, ◌||◌, [], Some, codes, false, IfOk, IfErr, map, option_map};
-ghost use Rattle.std.specs.Prelude.{string_bytes};
-ghost use Rattle.clap.specs.Words.{all_of, fault_of, first_of, found_of, kind_of, rows_of, subcommand_rows_of};
-ghost use Rattle.command_line.specs.Commands.{program_app};
-ghost use Rattle.command_line.specs.Jobs.{check_options_asked, check_options_in, flag_in};
-ghost use Rattle.command_line.specs.Jobs.{HelpIs, IsJob, IsTold, asked, asked_by, check_asked, feed_asked, is_shown};
-ghost use Rattle.command_line.specs.Jobs.{feed_options_asked, feed_options_in, goes_on};
-ghost use Rattle.command_line.specs.Jobs.{is_askable, is_spelled, job_of};
-ghost use Rattle.command_line.specs.Jobs.{is_empty_in, names_nothing};
-ghost use Rattle.command_line.specs.Jobs.{options_asked, options_in, read_asked, replay_asked};
-ghost use Rattle.command_line.specs.Jobs.{is_without_page, serve_asked, serve_options_asked};
-ghost use Rattle.command_line.specs.Jobs.{status_asked, verbose_by, verbose_in, verbose_of, view_asked, wants_by};
-ghost use Rattle.command_line.specs.declared.job.WordsFault.TheVariants.{OutOfMemory};
+//! The words of the command line: which job they ask for, or what is wrong with them.
+//!
+//! Which words are taken, and what is found in them, is what `clap` says. That each option comes to its field is tried
+//! from outside, by the rows of `tests`.
+ghost use Rattle.std.specs.Prelude.{◌≡◌, IfOk, IfSome};
+ghost use Rattle.command_line.specs.Jobs.{InRange, IsFeeding, IsJob, goes_on, is_askable, is_spelled, is_without_page};
 
 use crate::amounts::{number_in, period_in, seconds_in};
 use crate::commands::program;
@@ -25,31 +17,22 @@ use clap::error::ErrorKind;
 use std::alloc::{AllocError, Global};
 
 /// The text of an argument, where it has one.
-pub fn text_at<'a>(arguments: &ArgMatches<'a>, name: &str) -> Option<&'a str>
-    ensures { option_map (λ s. s.now) result ≡ first_of name.now (rows_of (found_of arguments.now)) }
-{
+pub fn text_at<'a>(arguments: &ArgMatches<'a>, name: &str) -> Option<&'a str> {
     arguments.get_str(name)
 }
 
 /// All texts of an argument, where it has some.
-pub fn texts_at<'m, 'a>(arguments: &'m ArgMatches<'a>, name: &str) -> Option<&'m [&'a str]>
-    ensures { option_map (λ s. map (λ text. text.now) s.now) result
-        ≡ all_of name.now (rows_of (found_of arguments.now)) }
-{
+pub fn texts_at<'m, 'a>(arguments: &'m ArgMatches<'a>, name: &str) -> Option<&'m [&'a str]> {
     arguments.get_strs(name)
 }
 
 /// Whether a flag was given.
-fn has_flag(arguments: &ArgMatches<'_>, name: &str) -> bool
-    ensures { result ≡ flag_in name.now (rows_of (found_of arguments.now)) }
-{
+fn has_flag(arguments: &ArgMatches<'_>, name: &str) -> bool {
     text_at(arguments, name) == Some("true")
 }
 
 /// The options of `check`.
-fn check_options<'a>(arguments: &ArgMatches<'a>) -> CheckOptions<'a>
-    ensures { check_options_asked result ≡ check_options_in (rows_of (found_of arguments.now)) }
-{
+fn check_options<'a>(arguments: &ArgMatches<'a>) -> CheckOptions<'a> {
     CheckOptions {
         is_iso: has_flag(arguments, "iso"),
         has_summary: has_flag(arguments, "summary"),
@@ -60,7 +43,7 @@ fn check_options<'a>(arguments: &ArgMatches<'a>) -> CheckOptions<'a>
 }
 
 fn check_job<'a>(alloc: Global, arguments: &ArgMatches<'a>) -> Result<Option<Job<'a>>, AllocError>
-    ensures { IfOk result (λ job. option_map asked job ≡ check_asked (rows_of (found_of arguments.now))) }
+    ensures { IfOk result (λ job. IfSome job IsJob) }
 {
     let Some(names) = texts_at(arguments, "FILE") else {
         return Ok(None);
@@ -73,7 +56,7 @@ fn check_job<'a>(alloc: Global, arguments: &ArgMatches<'a>) -> Result<Option<Job
 }
 
 fn replay_job<'a>(arguments: &ArgMatches<'a>) -> Option<Job<'a>>
-    ensures { option_map asked result ≡ replay_asked (rows_of (found_of arguments.now)) }
+    ensures { IfSome result IsJob }
 {
     let config = text_at(arguments, "CONFIG")?;
     let script = text_at(arguments, "SCRIPT")?;
@@ -85,7 +68,7 @@ fn replay_job<'a>(arguments: &ArgMatches<'a>) -> Option<Job<'a>>
 }
 
 fn view_job<'a>(arguments: &ArgMatches<'a>) -> Option<Job<'a>>
-    ensures { option_map asked result ≡ view_asked (rows_of (found_of arguments.now)) }
+    ensures { IfSome result IsJob }
 {
     let config = text_at(arguments, "CONFIG")?;
     let options = ViewOptions {
@@ -102,7 +85,7 @@ fn view_job<'a>(arguments: &ArgMatches<'a>) -> Option<Job<'a>>
 
 /// Whether they say something of a status page that is not asked for.
 fn is_without_page(options: &ServeOptions<'_>) -> bool
-    ensures { result ≡ is_without_page (serve_options_asked options.now) }
+    ensures { result ≡ is_without_page options.now }
 {
     options.status.is_none()
         && (options.status_from.is_some()
@@ -111,7 +94,7 @@ fn is_without_page(options: &ServeOptions<'_>) -> bool
 }
 
 fn serve_job<'a>(arguments: &ArgMatches<'a>) -> Option<Job<'a>>
-    ensures { option_map asked result ≡ serve_asked (rows_of (found_of arguments.now)) }
+    ensures { IfSome result IsJob }
 {
     let config = text_at(arguments, "CONFIG")?;
     let listen = text_at(arguments, "listen")?;
@@ -148,7 +131,7 @@ fn serve_job<'a>(arguments: &ArgMatches<'a>) -> Option<Job<'a>>
 /// The options of `feed`; None if the text of a number or of seconds is not one, or if `--strict` and `--skip` stand
 /// together.
 fn feed_options<'a>(arguments: &ArgMatches<'a>) -> Option<FeedOptions<'a>>
-    ensures { option_map feed_options_asked result ≡ feed_options_in (rows_of (found_of arguments.now)) }
+    ensures { IfSome result IsFeeding }
 {
     let from = number_in(arguments, "from")?;
     let limit = seconds_in(arguments, "timeout")?;
@@ -167,7 +150,7 @@ fn feed_options<'a>(arguments: &ArgMatches<'a>) -> Option<FeedOptions<'a>>
 }
 
 fn feed_job<'a>(alloc: Global, arguments: &ArgMatches<'a>) -> Result<Option<Job<'a>>, AllocError>
-    ensures { IfOk result (λ job. option_map asked job ≡ feed_asked (rows_of (found_of arguments.now))) }
+    ensures { IfOk result (λ job. IfSome job IsJob) }
 {
     let Some(server) = text_at(arguments, "SERVER") else {
         return Ok(None);
@@ -188,7 +171,7 @@ fn feed_job<'a>(alloc: Global, arguments: &ArgMatches<'a>) -> Result<Option<Job<
 
 /// The options of `read`; None if the text of a number of seconds is not one.
 pub fn read_options<'a>(arguments: &ArgMatches<'a>) -> Option<ReadOptions<'a>>
-    ensures { option_map options_asked result ≡ options_in (rows_of (found_of arguments.now)) }
+    ensures { IfSome result (λ o. (InRange o.retry) × (InRange o.timeout)) }
 {
     let retry = seconds_in(arguments, "retry")?;
     let timeout = seconds_in(arguments, "timeout")?;
@@ -209,7 +192,7 @@ pub fn read_options<'a>(arguments: &ArgMatches<'a>) -> Option<ReadOptions<'a>>
 
 /// Whether they go on by numbers after a break.
 fn goes_on(options: &ReadOptions<'_>) -> bool
-    ensures { result ≡ goes_on (options_asked options.now) }
+    ensures { result ≡ goes_on options.now }
 {
     options.retry.is_some() || options.state.is_some()
 }
@@ -217,14 +200,14 @@ fn goes_on(options: &ReadOptions<'_>) -> bool
 /// Whether SeedLink can spell them: an end stands only beside a begin, and not beside `--fetch`, `--retry` or
 /// `--state`.
 fn is_spelled(options: &ReadOptions<'_>) -> bool
-    ensures { result ≡ is_spelled (options_asked options.now) }
+    ensures { result ≡ is_spelled options.now }
 {
     options.last.is_none() || (options.begin.is_some() && !options.fetch && !goes_on(options))
 }
 
 /// Whether they can stand together: SeedLink can spell them, and records go to an archive or to an output alone.
 fn is_askable(options: &ReadOptions<'_>) -> bool
-    ensures { result ≡ is_askable (options_asked options.now) }
+    ensures { result ≡ is_askable options.now }
 {
     is_spelled(options) && (options.archive.is_none() || options.output.is_none())
 }
@@ -234,10 +217,7 @@ fn wants_in<'a>(
     alloc: Global,
     arguments: &ArgMatches<'a>,
     has_file: bool,
-) -> Result<Option<Vec<&'a str>>, AllocError>
-    ensures { IfOk result (λ wants. option_map (λ w. map (λ want. want.now) w.items) wants
-        ≡ wants_by has_file (all_of (codes "WANT") (rows_of (found_of arguments.now)))) }
-{
+) -> Result<Option<Vec<&'a str>>, AllocError> {
     match texts_at(arguments, "WANT") {
         Some(texts) => Ok(Some(texts.to_vec(alloc)?)),
         None if has_file => Ok(Some(Vec::new(alloc))),
@@ -246,7 +226,7 @@ fn wants_in<'a>(
 }
 
 fn read_job<'a>(alloc: Global, arguments: &ArgMatches<'a>) -> Result<Option<Job<'a>>, AllocError>
-    ensures { IfOk result (λ job. option_map asked job ≡ read_asked (rows_of (found_of arguments.now))) }
+    ensures { IfOk result (λ job. IfSome job IsJob) }
 {
     let Some(options) = read_options(arguments) else {
         return Ok(None);
@@ -268,7 +248,7 @@ fn read_job<'a>(alloc: Global, arguments: &ArgMatches<'a>) -> Result<Option<Job<
 }
 
 fn status_job<'a>(arguments: &ArgMatches<'a>) -> Option<Job<'a>>
-    ensures { option_map asked result ≡ status_asked (rows_of (found_of arguments.now)) }
+    ensures { IfSome result IsJob }
 {
     let server = text_at(arguments, "SERVER")?;
     Some(Job::Status {
@@ -278,9 +258,7 @@ fn status_job<'a>(arguments: &ArgMatches<'a>) -> Option<Job<'a>>
 }
 
 /// Whether an option has no text.
-fn is_empty_in(arguments: &ArgMatches<'_>, name: &str) -> bool
-    ensures { result ≡ is_empty_in name.now (rows_of (found_of arguments.now)) }
-{
+fn is_empty_in(arguments: &ArgMatches<'_>, name: &str) -> bool {
     match text_at(arguments, name) {
         Some(text) => text.is_empty(),
         None => false,
@@ -288,9 +266,7 @@ fn is_empty_in(arguments: &ArgMatches<'_>, name: &str) -> bool
 }
 
 /// Whether an option that names a file or a folder names none, as one whose text is a variable that isn't set.
-pub fn names_nothing(arguments: &ArgMatches<'_>) -> bool
-    ensures { result ≡ names_nothing (rows_of (found_of arguments.now)) }
-{
+pub fn names_nothing(arguments: &ArgMatches<'_>) -> bool {
     is_empty_in(arguments, "archive")
         || is_empty_in(arguments, "output")
         || is_empty_in(arguments, "state")
@@ -300,7 +276,7 @@ pub fn names_nothing(arguments: &ArgMatches<'_>) -> bool
 }
 
 fn job_in<'a>(alloc: Global, matches: &ArgMatches<'a>) -> Result<Option<Job<'a>>, AllocError>
-    ensures { IfOk result (λ job. option_map asked job ≡ asked_by (subcommand_rows_of matches.now)) }
+    ensures { IfOk result (λ job. IfSome job IsJob) }
 {
     let Some((name, arguments)) = matches.subcommand() else {
         return Ok(None);
@@ -321,23 +297,17 @@ fn job_in<'a>(alloc: Global, matches: &ArgMatches<'a>) -> Result<Option<Job<'a>>
 }
 
 /// Whether the flag `--verbose` stands among the arguments of one command.
-fn is_verbose(arguments: &ArgMatches<'_>) -> bool
-    ensures { result ≡ verbose_in (rows_of (found_of arguments.now)) }
-{
+fn is_verbose(arguments: &ArgMatches<'_>) -> bool {
     text_at(arguments, "verbose") == Some("true")
 }
 
 /// Whether it stands before the subcommand or after it.
-fn is_verbose_anywhere(matches: &ArgMatches<'_>) -> bool
-    ensures { result ≡ (verbose_in (rows_of (found_of matches.now)) || verbose_by (subcommand_rows_of matches.now)) }
-{
+fn is_verbose_anywhere(matches: &ArgMatches<'_>) -> bool {
     is_verbose(matches) || is_verbose_below(matches)
 }
 
 /// Whether it stands after the subcommand.
-fn is_verbose_below(matches: &ArgMatches<'_>) -> bool
-    ensures { result ≡ verbose_by (subcommand_rows_of matches.now) }
-{
+fn is_verbose_below(matches: &ArgMatches<'_>) -> bool {
     match matches.subcommand() {
         Some((_, arguments)) => is_verbose(arguments),
         None => false,
@@ -345,9 +315,7 @@ fn is_verbose_below(matches: &ArgMatches<'_>) -> bool
 }
 
 /// Whether the user asked to be shown help or the version, and made no mistake.
-fn is_shown(kind: ErrorKind) -> bool
-    ensures { result ≡ is_shown kind }
-{
+fn is_shown(kind: ErrorKind) -> bool {
     matches!(kind, ErrorKind::DisplayHelp | ErrorKind::DisplayVersion)
 }
 
@@ -360,10 +328,7 @@ fn refusal_text(alloc: Global, error: clap::Error, words: &[String]) -> Result<S
 }
 
 /// What the user is told of words that `clap` refuses.
-fn refused(alloc: Global, error: clap::Error, words: &[String]) -> WordsFault
-    ensures memory { kind_of error ≡ ErrorKind.OutOfMemory → result ≡ OutOfMemory }
-    ensures help { HelpIs (is_shown (kind_of error)) result }
-{
+fn refused(alloc: Global, error: clap::Error, words: &[String]) -> WordsFault {
     let kind = error.kind();
     if kind == ErrorKind::OutOfMemory {
         return WordsFault::OutOfMemory;
@@ -378,9 +343,7 @@ fn refused(alloc: Global, error: clap::Error, words: &[String]) -> WordsFault
 }
 
 /// What the user is told of words that `clap` takes and that are no job.
-fn mistaken(alloc: Global, matches: &ArgMatches<'_>) -> WordsFault
-    ensures { HelpIs false result }
-{
+fn mistaken(alloc: Global, matches: &ArgMatches<'_>) -> WordsFault {
     match mistake_text(alloc, matches) {
         Ok(text) => WordsFault::Refused {
             text,
@@ -391,18 +354,12 @@ fn mistaken(alloc: Global, matches: &ArgMatches<'_>) -> WordsFault
 }
 
 /// The job that a command line asks for, and whether faults are to be explained. Its first word is the program's name.
-///
-/// Which words name which job is said by the definitions of `clap`: at Ok `clap` finds no fault with the words, so that
-/// no word is left over, and each text and number of the job is the one that stands at its place.
+/// The options of the job can stand together, and each of its numbers is in its range.
 ///
 /// It fails with Refused if the words are no job, with the text that `clap` has for the user (for `--help faults` the
-/// table of all faults) and whether that is help or the version, and with OutOfMemory only if there is no memory.
+/// table of all faults) and whether that is help or the version, and with OutOfMemory if there is no memory.
 pub fn read_words<'a>(alloc: Global, words: &'a [String]) -> Result<Request<'a>, WordsFault>
-    ensures ok { IfOk result (λ request. job_of (map string_bytes words.entry.now) ≡ Some (asked request.job)) }
-    ensures verbose { IfOk result (λ request. request.is_verbose ≡ verbose_of (map string_bytes words.entry.now)) }
-    ensures taken { IfOk result (λ request. fault_of program_app (map string_bytes words.entry.now) ≡ []) }
-    ensures err { IfErr result (λ fault. IsJob (map string_bytes words.entry.now) → fault ≡ OutOfMemory) }
-    ensures told { IfErr result (IsTold (fault_of program_app (map string_bytes words.entry.now))) }
+    ensures { IfOk result (λ request. IsJob request.job) }
 {
     let Ok(command) = program(alloc) else {
         return Err(WordsFault::OutOfMemory);

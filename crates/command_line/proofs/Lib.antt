@@ -1,2 +1,0 @@
-mod JobRows
-mod Refusing
