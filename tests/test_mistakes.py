@@ -87,11 +87,13 @@ MISTAKES = [
     ("standard input twice", "check - -", 0, ["seedlinkd: nothing to check in -\nseedlinkd: nothing to check in -\n"]),
     ("an empty file to check", "check empty", 0, ["seedlinkd: nothing to check in empty\n"]),
     ("an empty folder to check", "check folder", 0, ["seedlinkd: nothing to check in folder\n"]),
+    ("a compressed file of less than a record to check", "check small.gz", 1, ["41 Partial\n", "  found: a file compressed by gzip\n"]),
     # feeds
     ("nothing to feed", "feed FEEDS empty", 0, ["sent 0 records\n"]),
     ("a record after the last one", "feed FEEDS two.mseed --from 100", 0, ["sent 0 records: there is no record 100 in two.mseed\n"]),
     ("records that were compressed, passed over", "feed FEEDS two.gz --skip", 0,
      ["seedlinkd: passed over ", " bytes in no record (a file compressed by gzip), from byte 0 of two.gz on\n", "sent 0 records\n"]),
+    ("a compressed file of less than a record to feed", "feed FEEDS small.gz", 1, ["41 Partial\n", "  file: small.gz\n", "  found: a file compressed by gzip\n"]),
     ("a feed at the port for clients", "feed SERVER many.mseed", 1, ["52 BadReply\n", "perhaps this is its port for clients\n"]),
     ("one record", "feed FEEDS one.mseed", 0, ["sent 1 record\n"]),
     ("a few records at the port for clients", "feed SERVER ten.mseed", 1, ["52 BadReply\n", "perhaps this is its port for clients\n"]),
@@ -178,6 +180,7 @@ def make_files():
     kit.write("wlf.mseed", record(1, "WLF"))
     kit.write("ten.mseed", record(10, "APE"))
     kit.write("two.gz", gzip.compress(two * 20))
+    kit.write("small.gz", gzip.compress(two)[:300])
     kit.write("torn.mseed", two[:512] + b"x" + two[512:])
     kit.write("rest.mseed", two[:700])
     kit.write("long.mseed", long_record())

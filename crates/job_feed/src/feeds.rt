@@ -3,13 +3,14 @@
 //! `feed -` opens `/dev/stdin`. The toolchain's own standard input reads a byte at a time from a pipe. Standard input
 //! that is a socket can't be opened so.
 ghost use Rattle.std.specs.Prelude.{◌≡◌, ◌/◌, IfOk, IfSome, OnOk};
+ghost use Rattle.feeder.specs.Sending.{send_reason};
 ghost use Rattle.job_feed.specs.Skipping.{first_record};
 
 use crate::aligned::Aligned;
 use crate::fault::FeedFault;
 use crate::feed::{Feed, SentFeed};
 use crate::judging::{Judged, finding_of};
-use crate::lines::FeedLine;
+use crate::lines::{FeedLine, FoundKind};
 use crate::looks::{look_at_each, tell_repeated};
 use crate::sent::{FileRecord, SentRecords};
 use crate::skipping::{bytes_before, pass_over};
@@ -19,8 +20,9 @@ use feeder::SendFault;
 use incidents::{Failure, Incident, Place};
 use job_base::{
     ConfiguredStations, ReasonKeeper, ServerAddress, Watched, checked_config_at, connection,
-    is_terminal, open, refused_records, server_of, size_of, unconnected,
+    is_terminal, lines_of, open, refused_records, server_of, size_of, unconnected,
 };
+use protocol::reason::Reason;
 use record_check::{AllStations, FeedTally, FileKind, Stations};
 use sl_io::{DeviceFault, Outer};
 use std::fs::File;
@@ -133,11 +135,34 @@ fn send_input<'a, S: Stations>(
         Err(SendFault::Write) if feed.is_open() => {
             Err(FeedFault::Silent.failure().in_feed(first.file, server))
         }
-        Err(fault) => Err(
-            Failure::of(fault.reason())
-                .in_feed(first.file, server)
-                .at_file(first.file, reason),
-        ),
+        Err(fault) => {
+            let incident = unsent(fault, first.file, server, reason);
+            Err(with_kind(rt, incident, kind))
+        }
+    }
+}
+
+/// A file that was not sent to its end.
+fn unsent<'a>(
+    fault: SendFault,
+    file: &'a str,
+    server: &'a str,
+    reason: Option<io::Error>,
+) -> Incident<'a>
+    ensures { result.failure.reason ≡ send_reason fault }
+{
+    Failure::of(fault.reason())
+        .in_feed(file, server)
+        .at_file(file, reason)
+}
+
+/// What is wrong with a file, and if it ends inside a record (41) what it is, if it is known for no file of records.
+fn with_kind<'a>(rt: &HostRuntime, incident: Incident<'a>, kind: Option<FileKind>) -> Incident<'a>
+    ensures { result.failure ≡ incident.entry.failure }
+{
+    match (incident.failure.reason, kind) {
+        (Reason::Partial, Some(kind)) => incident.with(lines_of(rt.alloc(), FoundKind(kind))),
+        _ => incident,
     }
 }
 

@@ -91,6 +91,16 @@ impl Display for Known {
     }
 }
 
+/// The line that says what a file is, with two spaces before it.
+#[derive(Clone, Copy, Drop)]
+pub struct FoundKind(pub FileKind);
+
+impl Display for FoundKind {
+    fn fmt<W: Write>(&self, f: &mut Formatter<W>) -> fmt::Result {
+        writeln!(f, "  found: {}", self.0)
+    }
+}
+
 impl Display for FeedLine<'_> {
     fn fmt<W: Write>(&self, f: &mut Formatter<W>) -> fmt::Result {
         let mut line = ShownLine::new(f);
