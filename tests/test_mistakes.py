@@ -87,6 +87,8 @@ MISTAKES = [
     ("standard input twice", "check - -", 0, ["seedlinkd: nothing to check in -\nseedlinkd: nothing to check in -\n"]),
     ("an empty file to check", "check empty", 0, ["seedlinkd: nothing to check in empty\n"]),
     ("an empty folder to check", "check folder", 0, ["seedlinkd: nothing to check in folder\n"]),
+    ("an empty script", "replay c.toml empty", 0, ["seedlinkd: no event to replay in empty\n"]),
+    ("a script of comments", "replay c.toml comments.script", 0, ["seedlinkd: no event to replay in comments.script\n"]),
     ("a compressed file of less than a record to check", "check small.gz", 1, ["41 Partial\n", "  found: a file compressed by gzip\n"]),
     # feeds
     ("nothing to feed", "feed FEEDS empty", 0, ["sent 0 records\n"]),
@@ -181,6 +183,7 @@ def make_files():
     kit.write("ten.mseed", record(10, "APE"))
     kit.write("two.gz", gzip.compress(two * 20))
     kit.write("small.gz", gzip.compress(two)[:300])
+    kit.write("comments.script", "# nothing\n\n# yet\n")
     kit.write("torn.mseed", two[:512] + b"x" + two[512:])
     kit.write("rest.mseed", two[:700])
     kit.write("long.mseed", long_record())

@@ -1,9 +1,10 @@
 //! A script's events at a server: from a reader to a writer, and from a file to the standard output.
-ghost use Rattle.std.specs.Prelude.{◌≡◌, ◌≢◌, Some, None, map, IfOk, OnOk, IfErr, IfSome, MatchResult};
+ghost use Rattle.std.specs.Prelude.{◌≡◌, ◌≢◌, Some, None, length, map, option_map, IfOk, OnOk, IfErr, IfSome};
+ghost use Rattle.std.specs.Prelude.{MatchResult};
 ghost use Rattle.std.specs.List.{slice_split};
 ghost use Rattle.server_core.specs.Runs.{event_value, handed_value};
 ghost use Rattle.event_script.specs.Failing.{FailsAtLine};
-ghost use Rattle.event_script.specs.Script.{is_line_feed};
+ghost use Rattle.event_script.specs.Script.{events_of, is_line_feed};
 ghost use Rattle.job_check.specs.Output.{output_after, replayed, written_of};
 ghost use Rattle.job_check.specs.Replaying.{IfScript, LeavesReader, LeavesWriter, WritesAll, WritesBeginning};
 ghost use Rattle.event_script.specs.declared.fault.ScriptFault.TheVariants.{Script as ScriptIsNone};
@@ -14,10 +15,12 @@ use crate::replay_fault::ReplayFault;
 use catalog::Config;
 use event_script::{ScriptError, ScriptFault, dialogue_of, events_of, output_of};
 use incidents::Incident;
-use job_base::{ReasonKeeper, config_at, open};
+use job_base::{ReasonKeeper, config_at, is_terminal, open};
 use server_core::{Event, Handed, run};
+use shown_lines::ShownLine;
 use sl_io::{Outer, Sink, Source, StreamFault, read_all, write_all};
 use std::alloc::{AllocError, Global};
+use std::fmt::{self, Display, Formatter, Write};
 use std::io::{self, Read};
 
 /// How a replay writes what happens.
@@ -59,6 +62,13 @@ fn output_after(
     Ok(output)
 }
 
+/// What is written of a script, and how many events it has.
+#[derive(Drop)]
+struct Replayed {
+    output: Vec<u8>,
+    count: usize,
+}
+
 /// What a server with that configuration writes of a script. A text that is none is refused at its first line that is
 /// no event.
 fn output_for(
@@ -66,15 +76,17 @@ fn output_for(
     style: ReplayStyle,
     config: Config,
     text: &[u8],
-) -> Result<Vec<u8>, ScriptError>
-    ensures ok { IfOk result (λ output. replayed style config text.now ≡ Some output.items) }
+) -> Result<Replayed, ScriptError>
+    ensures ok { IfOk result (λ made. replayed style config text.now ≡ Some made.output.items) }
+    ensures count { IfOk result (λ made. option_map length (events_of text.now) ≡ Some made.count) }
     ensures script { IfErr result (λ e. e.fault ≡ ScriptIsNone → replayed style config text.now ≡ None) }
     ensures line { IfErr result (λ e. e.fault ≡ ScriptIsNone
         → FailsAtLine (slice_split is_line_feed text.now) e.line) }
 {
     let events = events_of(alloc, text)?;
+    let count = events.len();
     match output_after(alloc, style, config, events.as_slice()) {
-        Ok(output) => Ok(output),
+        Ok(output) => Ok(Replayed { output, count }),
         Err(_) => Err(ScriptError {
             fault: ScriptFault::OutOfMemory,
             line: 0,
@@ -84,7 +96,7 @@ fn output_for(
 
 /// Reads a script to its end, does its events at a new server with that configuration, and writes a line for each take,
 /// or for each event, as the style says. The output is made whole before its first byte is written, and written in as
-/// few calls as the writer takes.
+/// few calls as the writer takes. Answers how many events the script has.
 ///
 /// It fails with Read where a read failed or 2^64 - 1 reads were made, with Script where the text is no script, and the
 /// line that it names is the first that is no event, with Write where a write failed or took no byte, and with
@@ -96,7 +108,9 @@ pub fn replay<R: Source, W: Sink>(
     config: Config,
     script: &mut R,
     out: &mut W,
-) -> Result<(), ReplayFault>
+) -> Result<usize, ReplayFault>
+    ensures count { IfOk result (λ count. IfSome (R.left script.old)
+        (λ text. option_map length (events_of text) ≡ Some count)) }
     ensures ok { OnOk result
         (IfSome (R.left script.old)
         (λ text. WritesAll (replayed style config text) (W.written out.old) (W.written out.new))) }
@@ -120,8 +134,8 @@ pub fn replay<R: Source, W: Sink>(
         Ok(text) => text,
         Err(fault) => return Err(ReplayFault::Stream(StreamFault::from(fault))),
     };
-    let output = match output_for(alloc, style, config, text.as_slice()) {
-        Ok(output) => output,
+    let Replayed { output, count } = match output_for(alloc, style, config, text.as_slice()) {
+        Ok(made) => made,
         Err(
             ScriptError {
                 fault: ScriptFault::OutOfMemory,
@@ -136,18 +150,18 @@ pub fn replay<R: Source, W: Sink>(
         ) => return Err(ReplayFault::Script(line)),
     };
     match write_all(out, output.as_slice()) {
-        Ok(()) => Ok(()),
+        Ok(()) => Ok(count),
         Err(fault) => Err(ReplayFault::Stream(StreamFault::from(fault))),
     }
 }
 
-/// Replays a script, and writes its output to the standard output.
+/// Replays a script, and writes its output to the standard output. Answers how many events it has.
 fn write_output<S: Source>(
     rt: &HostRuntime,
     style: ReplayStyle,
     config: Config,
     script: &mut S,
-) -> Result<(), ReplayFault> {
+) -> Result<usize, ReplayFault> {
     let mut out = Outer::new(io::writer(rt));
     replay(rt.alloc(), style, config, script, &mut out)
 }
@@ -159,10 +173,10 @@ fn replay_open<'a, F: Read + Drop>(
     config: Config,
     script: &'a str,
     file: F,
-) -> Result<(), Incident<'a>> {
+) -> Result<usize, Incident<'a>> {
     let mut file = Outer::new(ReasonKeeper::new(file));
     match write_output(rt, style, config, &mut file) {
-        Ok(()) => Ok(()),
+        Ok(count) => Ok(count),
         Err(fault) => {
             let reason = file.into_inner().into_reason();
             Err(fault.in_script(script).at_file(script, reason))
@@ -170,14 +184,33 @@ fn replay_open<'a, F: Read + Drop>(
     }
 }
 
-/// Writes the output of a script. The configuration is judged before the script is opened.
+/// That a script has no event, as standard error is told.
+#[derive(Clone, Copy)]
+struct EmptyScript<'a> {
+    path: &'a str,
+}
+
+impl Display for EmptyScript<'_> {
+    fn fmt<W: Write>(&self, f: &mut Formatter<W>) -> fmt::Result {
+        let mut line = ShownLine::new(f);
+        write!(line, "seedlinkd: no event to replay in {}", self.path)
+    }
+}
+
+/// Writes the output of a script. The configuration is judged before the script is opened. With `is_verbose`, or at a
+/// terminal, it is told if the script has no event.
 pub fn replay_files<'a>(
     rt: &HostRuntime,
     style: ReplayStyle,
     config: &'a str,
     script: &'a str,
+    is_verbose: bool,
 ) -> Result<(), Incident<'a>> {
     let config = config_at(rt, config)?.into_config();
     let file = open(rt, script)?;
-    replay_open(rt, style, config, script, file)
+    let count = replay_open(rt, style, config, script, file)?;
+    if count == 0 && (is_verbose || is_terminal()) {
+        let _ = eprintln!(rt; "{}", EmptyScript { path: script });
+    }
+    Ok(())
 }

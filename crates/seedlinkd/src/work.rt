@@ -78,7 +78,10 @@ pub fn run_job<'a>(
             config,
             script,
             is_text,
-        } => done(replay_files(rt, style_of(is_text), config, script)),
+        } => {
+            let style = style_of(is_text);
+            done(replay_files(rt, style, config, script, is_verbose))
+        }
         Job::View(options) => done(view_file(rt, options)),
         Job::Serve(options) => {
             let is_verbose = is_verbose || is_terminal();
