@@ -7,7 +7,8 @@ import os
 import subprocess
 
 import kit
-from kit import record
+import scripted
+from kit import ERROR, OK, record
 
 CONFIG = """title = "T"
 access = "10.0.0.0/8"
@@ -87,9 +88,9 @@ MISTAKES = [
     ("standard input twice", "check - -", 0, ["seedlinkd: nothing to check in -\nseedlinkd: nothing to check in -\n"]),
     ("an empty file to check", "check empty", 0, ["seedlinkd: nothing to check in empty\n"]),
     ("an empty folder to check", "check folder", 0, ["seedlinkd: nothing to check in folder\n"]),
+    ("a compressed file of less than a record to check", "check small.gz", 1, ["41 Partial\n", "  found: a file compressed by gzip\n"]),
     ("an empty script", "replay c.toml empty", 0, ["seedlinkd: no event to replay in empty\n"]),
     ("a script of comments", "replay c.toml comments.script", 0, ["seedlinkd: no event to replay in comments.script\n"]),
-    ("a compressed file of less than a record to check", "check small.gz", 1, ["41 Partial\n", "  found: a file compressed by gzip\n"]),
     # feeds
     ("nothing to feed", "feed FEEDS empty", 0, ["sent 0 records\n"]),
     ("a record after the last one", "feed FEEDS two.mseed --from 100", 0, ["sent 0 records: there is no record 100 in two.mseed\n"]),
@@ -118,6 +119,27 @@ MISTAKES = [
     ("nobody at the port", "read FREE GE_APE", 1, ["47 Connect\n", "  reason: Connection refused (os error 111)\n"]),
 ]
 SLOW = ["a status that is asked of the port for feeds"]
+# What a server sends to a reader of one station before END and after it, the fault, and all that is said of what it sent.
+HELLO, FOUR = b"SeedLink v3.1 (tried)\r\nTried\r\n", b"SeedLink v4.0 (tried) :: SLPROTO:4.0 %sCAP\r\nTried\r\n"
+BAD, NONE = "52 BadReply", "10 NotAPacket"
+OTHER = "  found: SeedLink 4, where SeedLink 3 is taken\n"
+MANY = "  sent: OK\n  found: an answer too many: all commands were answered before\n"
+REPLIES = [
+    ("no greeting", b"HTTP/1.1 400 Bad Request\r\nServer: none\r\n\r\n", b"", BAD, "  sent: HTTP/1.1 400 Bad Request\n"),
+    ("an OK to HELLO", OK + HELLO, b"", BAD, "  sent: OK\n"),
+    ("another answer", HELLO + b"FINE\r\n", b"", BAD, "  sent: FINE\n"),
+    ("another answer behind an OK", HELLO + OK + b"FINE\r\n", b"", BAD, "  sent: FINE\n"),
+    ("an OK with a text", HELLO + b"OK fine\r\n", b"", BAD, "  sent: OK fine\n"),
+    ("an OK with LF alone", HELLO + b"OK\n", b"", BAD, "  sent: OK\n  found: an answer that ends with LF, where CR LF is taken\n"),
+    ("an OK twice", HELLO + OK + OK + OK, b"", NONE, MANY),
+    ("an OK to END", HELLO + OK + OK, OK, NONE, MANY),
+    ("a text to END", HELLO + OK + OK, b"FINE\r\n", NONE, "  sent: FINE\n"),
+    ("a text behind the last OK", HELLO + OK + OK + b"FINE\r\n", b"", NONE, "  sent: FINE\n"),
+    ("SeedLink 4", FOUR % b"" + b"ERROR UNEXPECTED\r\n", b"", BAD, "  sent: ERROR UNEXPECTED\n" + OTHER),
+    ("SeedLink 4 that refuses", FOUR % b"" + ERROR, b"", "51 AllRefused", OTHER),
+    ("SeedLink 4 and 3", FOUR % b"SLPROTO:3.1 " + b"ERROR UNEXPECTED\r\n", b"", BAD, "  sent: ERROR UNEXPECTED\n"),
+    ("SeedLink 4 and 3 that refuses", FOUR % b"SLPROTO:3.1 " + ERROR, b"", "51 AllRefused", ""),
+]
 # Faults, of each kind of job, and the line that they are without -v and not at a terminal.
 ONE_LINE = [
     ("feed: no server", "feed FREE two.mseed", "47 Connect"),
@@ -290,3 +312,19 @@ class Mistakes(kit.Test):
         done = subprocess.run([kit.PROGRAM, "read", server, "--fetch", "--quiet", "--wants", "-", "--output", "came"],
                               input=b"# two\nGE_APE\r\n", check=False, timeout=kit.PATIENCE)
         self.assertEqual((done.returncode, kit.identities_in("came")), (0, [1, 2]))
+
+
+@kit.unreleased
+class Replies(scripted.Test):
+    @kit.rows(REPLIES)
+    def test_what_was_sent_is_said(self, before, after, fault, said):
+        server = self.scripted(before, after)[0]
+        ended = self.run_program("-v", "read", server.address, "GE_APE", "--fetch")
+        first, _, lines = ended.said.partition("  address: %s\n" % server.address)
+        self.assertIn("seedlinkd: %s\n" % fault, first, ended.said)
+        self.assertEqual((ended.status, lines), (1, said), ended.said)
+
+    def test_a_reply_in_two_pieces(self):
+        server = self.scripted(HELLO + b"OKAY\r\n", b"", piece=1)[0]
+        ended = self.run_program("-v", "read", server.address, "GE_APE", "--fetch")
+        self.assertIn("  sent: OKA", ended.said)

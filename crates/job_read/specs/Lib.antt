@@ -1,3 +1,4 @@
+pub mod Answers
 pub mod Asking
 pub mod Begins
 pub mod Endings

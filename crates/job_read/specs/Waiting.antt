@@ -7,6 +7,8 @@ use Rattle.job_read.specs.declared.course.SentCommand.{SentCommand}
 use Rattle.job_read.specs.declared.course.SentCommand.TheVariants.{Begun, E, En, End, Other}
 use Rattle.job_read.specs.declared.patience.Silence.{Silence}
 use Rattle.job_read.specs.declared.patience.Silence.TheVariants.{Usual, Fault, Over}
+use Rattle.job_read.specs.declared.patience.Awaited.{Awaited}
+use Rattle.job_read.specs.declared.patience.Awaited.TheVariants.{Rest, Packet, WindowEnd, Record}
 
 -- ---- the bytes of a connection
 
@@ -68,6 +70,23 @@ silence_between false false = Usual
 -- what it means now
 abbrev pub silence_now : Silence → CourseValue → Silence
 silence_now between c = if is_owed c then Fault else between
+
+-- what is waited for between two packets
+abbrev pub awaited_between : Silence → Awaited
+awaited_between Usual = Record
+awaited_between Fault = Packet
+awaited_between Over = WindowEnd
+
+-- what is waited for now
+abbrev pub awaited_now : Silence → CourseValue → Awaited
+awaited_now between c = if is_owed c then Rest else awaited_between between
+
+-- after how many milliseconds it is told that nothing comes
+abbrev pub told_after : Awaited → ℕ
+told_after Record = 60000
+told_after Rest = 10000
+told_after Packet = 10000
+told_after WindowEnd = 10000
 
 -- the limit that holds for it
 abbrev pub limit_of : Option ℕ → Silence → Option ℕ

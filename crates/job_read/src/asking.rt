@@ -4,11 +4,13 @@
 ghost use Rattle.std.specs.Prelude.{◌≡◌};
 ghost use Rattle.std.specs.Io.{ReadsAtMost};
 ghost use Rattle.job_read.specs.Asking.{left_after};
+ghost use Rattle.job_read.specs.Waiting.{told_after};
 
 use crate::inlet::Inlet;
-use crate::patience::{Patience, shorter};
+use crate::patience::{Awaited, Patience, shorter};
 use files::milliseconds;
 use std::cell::Cell;
+use std::fmt::{self, Display, Formatter, Write};
 use std::io::{self, ErrorKind, Read};
 
 /// How many milliseconds a connection lasts on which a want was refused.
@@ -17,7 +19,7 @@ const HOUR: u64 = 3_600_000;
 /// The same of a server that is not the first of the list; and after how many of them it is told that nothing comes.
 const MINUTE: u64 = 60_000;
 
-/// The same of a server that owes something.
+/// The same of a server that owes something, and of a window.
 const SOON: u64 = 10_000;
 
 /// How many milliseconds are left of a connection on which a want was refused at a moment.
@@ -26,6 +28,47 @@ fn left_after(is_first: bool, refused: u64, now: u64) -> u64
 {
     let limit = if is_first { HOUR } else { MINUTE };
     limit.saturating_sub(now.saturating_sub(refused))
+}
+
+/// After how many milliseconds it is told that nothing comes, by what is waited for.
+fn told_after(awaited: Awaited) -> u64
+    ensures { result ≡ told_after awaited }
+{
+    match awaited {
+        Awaited::Record => MINUTE,
+        Awaited::Rest | Awaited::Packet | Awaited::WindowEnd => SOON,
+    }
+}
+
+/// That nothing comes and what is waited for, as standard error is told.
+fn silence_text(awaited: Awaited) -> &'static str {
+    match awaited {
+        Awaited::Record => "nothing has come for 60 s; waiting",
+        Awaited::Rest => "the server owes an answer, and nothing has come for 10 s; waiting",
+        Awaited::Packet =>
+            "the server owes a packet or the end, and nothing has come for 10 s; waiting",
+        Awaited::WindowEnd => "nothing more of the window has come for 10 s; waiting",
+    }
+}
+
+/// The same, and for how many seconds at most.
+#[derive(Clone, Copy)]
+struct SilenceLine {
+    awaited: Awaited,
+    limit: Option<u64>,
+}
+
+impl Display for SilenceLine {
+    fn fmt<W: Write>(&self, f: &mut Formatter<W>) -> fmt::Result {
+        write!(f, "seedlinkd: {}", silence_text(self.awaited))?;
+        match self.awaited {
+            Awaited::Record | Awaited::Rest => Ok(()),
+            Awaited::Packet | Awaited::WindowEnd => match self.limit {
+                None => f.write_str(" (--timeout N ends that)"),
+                Some(limit) => write!(f, " up to {limit} s (--timeout N)"),
+            },
+        }
+    }
 }
 
 /// When the wants are asked again that are refused on the connection that is read.
@@ -74,7 +117,7 @@ impl Renewal {
 }
 
 /// Reads what comes at a connection until it is over. If nothing comes for a minute, or for ten seconds from a server
-/// that owes something, that is told once.
+/// that owes something or for a window, that is told once.
 #[derive(Drop)]
 pub struct RenewedReader<'r> {
     inlet: &'r Inlet,
@@ -115,20 +158,14 @@ impl<'r> RenewedReader<'r> {
         if !self.is_told {
             return None;
         }
-        let is_owed = self.patience.is_owed();
-        let limit = if is_owed { SOON } else { MINUTE };
-        let left = limit.saturating_sub(now.saturating_sub(begun));
+        let awaited = self.patience.awaited();
+        let left = told_after(awaited).saturating_sub(now.saturating_sub(begun));
         if left > 0 {
             return Some(left);
         }
         self.is_told = false;
-        if is_owed {
-            let _ = eprintln!(self.rt;
-                "seedlinkd: the server owes an answer, and nothing has come for 10 s; waiting"
-            );
-        } else {
-            let _ = eprintln!(self.rt; "seedlinkd: nothing has come for 60 s; waiting");
-        }
+        let limit = self.patience.seconds();
+        let _ = eprintln!(self.rt; "{}", SilenceLine { awaited, limit });
         None
     }
 

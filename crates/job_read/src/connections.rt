@@ -7,12 +7,14 @@ ghost use Rattle.std.specs.Prelude.{◌≡◌, true, false, IfErr, None, OnOk};
 ghost use Rattle.job_read.specs.Endings.{goes_on};
 ghost use Rattle.job_read.specs.Places.{place_after};
 
+use crate::answers::{AnswerLines, ServerText};
 use crate::asking::RenewedReader;
 use crate::endings::{TransferFault, unlisted};
 use crate::inlet::Inlet;
 use crate::places::Places;
 use crate::reading::Reading;
-use crate::sides::{AnswerCounter, CommandWriter};
+use crate::sent::SentPiece;
+use crate::sides::{AnswerReader, CommandWriter};
 use incidents::{Failure, Incident, Place};
 use job_base::{ServerAddress, connection, lines_of, unconnected};
 use protocol::reason::Reason;
@@ -56,17 +58,27 @@ impl<'r, 'a, 'w> ServersInTurn<'r, 'a, 'w> {
         }
     }
 
-    /// A failure, with what the server sent if that is the failure.
-    fn with_sent(&self, incident: Incident<'a>) -> Incident<'a>
+    /// What the server sent last: the line that came last, or the beginning of what came once the transfer was asked
+    /// for.
+    fn last_sent(&self, lines: &AnswerLines) -> SentPiece {
+        if self.reading.patience.is_transfer() {
+            self.inlet.sent()
+        } else {
+            lines.last()
+        }
+    }
+
+    /// A failure, with what the server sent if that is the failure, and the version that it speaks if that is another
+    /// one.
+    fn with_sent(&self, incident: Incident<'a>, lines: &AnswerLines) -> Incident<'a>
         ensures { result.failure ≡ incident.entry.failure }
     {
-        if matches!(
-            incident.failure.reason,
-            Reason::BadReply | Reason::NotAPacket
-        ) {
-            incident.with(lines_of(self.rt.alloc(), self.inlet.sent()))
-        } else {
+        let reason = incident.failure.reason;
+        let text = ServerText::of(reason, self.last_sent(lines), lines.is_four());
+        if text.is_empty() {
             incident
+        } else {
+            incident.with(lines_of(self.rt.alloc(), text))
         }
     }
 
@@ -87,7 +99,7 @@ impl<'r, 'a, 'w> ServersInTurn<'r, 'a, 'w> {
 }
 
 /// What comes over a connection, as it is read.
-type ConnectionReader<'r> = Outer<AnswerCounter<RenewedReader<'r>>>;
+type ConnectionReader<'r> = Outer<AnswerReader<'r, RenewedReader<'r>>>;
 
 /// What comes over a connection, and where commands go.
 type Connected<'r> = (ConnectionReader<'r>, Outer<CommandWriter<'r>>);
@@ -105,7 +117,7 @@ fn sides<'r>(
     let (renewal, patience) = (&reading.renewal, &reading.patience);
     let reader = RenewedReader::new(inlet, rt, renewal, patience, reading.is_shown());
     Ok((
-        Outer::new(AnswerCounter::new(reader)),
+        Outer::new(AnswerReader::new(reader, patience)),
         Outer::new(CommandWriter::new(writer, &reading.patience)),
     ))
 }
@@ -182,12 +194,11 @@ impl<'r, 'a, 'w> Servers for ServersInTurn<'r, 'a, 'w> {
             return Ok(());
         }
         let patience = &self.reading.patience;
-        let fault = unlisted(
-            fault,
-            reader.into_inner().is_answered(),
-            patience.is_fault(),
-        );
-        let incident = self.with_sent(fault.failure().at_server(self.server()?.word));
+        let answers = reader.into_inner();
+        let lines = answers.lines();
+        let fault = unlisted(fault, lines.is_greeted(), patience.is_fault());
+        let incident = fault.failure().at_server(self.server()?.word);
+        let incident = self.with_sent(incident, lines);
         if patience.is_over() {
             // Nothing more comes of the window: the reading is at its end.
             return Err(incident);

@@ -112,6 +112,13 @@ impl Course {
         }
     }
 
+    /// Whether the transfer was asked for.
+    pub fn is_transfer(&self) -> bool
+        ensures { result ≡ self.now.is_transfer }
+    {
+        self.is_transfer
+    }
+
     /// Whether so many bytes more bring a packet to its end.
     pub fn completes(&self, count: usize) -> bool
         ensures { result ≡ completes self.now count }

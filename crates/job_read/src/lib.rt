@@ -3,6 +3,7 @@
 #![tactic(auto)]
 
 mod adding;
+mod answers;
 mod archiving;
 mod asking;
 mod begins;

@@ -1,7 +1,7 @@
 //! When a connection is left that is still there: its server is silent for too long.
 ghost use Rattle.std.specs.Prelude.{◌≡◌};
-ghost use Rattle.job_read.specs.Waiting.{left_of, limit_of, milliseconds_of, pause, shorter, silence_between};
-ghost use Rattle.job_read.specs.Waiting.{silence_now};
+ghost use Rattle.job_read.specs.Waiting.{awaited_now, left_of, limit_of, milliseconds_of, pause, shorter};
+ghost use Rattle.job_read.specs.Waiting.{silence_between, silence_now};
 ghost use Rattle.job_read.specs.Waiting.{time_limit};
 
 use crate::course::Course;
@@ -17,6 +17,19 @@ pub enum Silence {
     Fault,
     /// Nothing more comes of the window that was asked for.
     Over,
+}
+
+/// What is waited for while a server is silent.
+#[derive(Clone, Copy, PartialEq, Eq, Drop)]
+pub enum Awaited {
+    /// An answer, or the rest of a packet.
+    Rest,
+    /// The next packet of what is held, or the end.
+    Packet,
+    /// The end of a window, or a packet after it.
+    WindowEnd,
+    /// The next record, of which there may be none for long.
+    Record,
 }
 
 /// After how many seconds of silence a server is left, of so many servers: as asked for, and otherwise after 60 if
@@ -68,6 +81,20 @@ fn silence_now(between: Silence, course: &Course) -> Silence
         Silence::Fault
     } else {
         between
+    }
+}
+
+/// What is waited for now.
+fn awaited_now(between: Silence, course: &Course) -> Awaited
+    ensures { result ≡ awaited_now between course.now }
+{
+    if course.is_owed() {
+        return Awaited::Rest;
+    }
+    match between {
+        Silence::Usual => Awaited::Record,
+        Silence::Fault => Awaited::Packet,
+        Silence::Over => Awaited::WindowEnd,
     }
 }
 
@@ -185,6 +212,21 @@ impl Patience {
     /// Whether its server owes something: an answer, or the rest of a packet.
     pub fn is_owed(&self) -> bool {
         self.course.get().is_owed()
+    }
+
+    /// Whether the transfer was asked for.
+    pub fn is_transfer(&self) -> bool {
+        self.course.get().is_transfer()
+    }
+
+    /// What is waited for now.
+    pub fn awaited(&self) -> Awaited {
+        awaited_now(self.between, &self.course.get())
+    }
+
+    /// After how many seconds of silence the server is left, if it is.
+    pub fn seconds(&self) -> Option<u64> {
+        self.limit
     }
 
     /// What it means now that nothing comes.

@@ -34,7 +34,7 @@ impl SentPiece {
     }
 
     /// They.
-    fn bytes(&self) -> &[u8] {
+    pub fn bytes(&self) -> &[u8] {
         let count = self.count.min(MOST);
         &self.bytes[..count]
     }

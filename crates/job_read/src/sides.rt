@@ -1,5 +1,6 @@
 //! The two sides of a connection that is read: which answers have come, which commands were sent, and whether commands
 //! still go.
+use crate::answers::AnswerLines;
 use crate::patience::Patience;
 use std::io;
 use std::io::{Read, Write};
@@ -48,42 +49,35 @@ impl Write for CommandWriter<'_> {
     }
 }
 
-/// How many lines answer HELLO.
-const ANSWER: usize = 2;
-
-/// Passes on what is read, and counts the lines that end in it, as far as those that answer HELLO.
+/// Passes on what is read, and looks at the lines that come before the transfer.
 #[derive(Drop)]
-pub struct AnswerCounter<T> {
+pub struct AnswerReader<'r, T> {
     inner: T,
-    lines: usize,
+    patience: &'r Patience,
+    lines: AnswerLines,
 }
 
-impl<T> AnswerCounter<T> {
+impl<'r, T> AnswerReader<'r, T> {
     /// What is read from `inner`, of which no line has come yet.
-    pub fn new(inner: T) -> AnswerCounter<T> {
-        AnswerCounter { inner, lines: 0 }
-    }
-
-    /// Whether both lines came that answer HELLO.
-    pub fn is_answered(&self) -> bool {
-        self.lines >= ANSWER
-    }
-
-    /// Counts the lines that end in a piece.
-    fn count(&mut self, piece: &[u8]) {
-        for byte in piece {
-            if *byte == b'\n' && self.lines < ANSWER {
-                self.lines += 1;
-            }
+    pub fn new(inner: T, patience: &'r Patience) -> AnswerReader<'r, T> {
+        AnswerReader {
+            inner,
+            patience,
+            lines: AnswerLines::new(),
         }
     }
+
+    /// The lines that came before the transfer.
+    pub fn lines(&self) -> &AnswerLines {
+        &self.lines
+    }
 }
 
-impl<T: Read> Read for AnswerCounter<T> {
+impl<T: Read> Read for AnswerReader<'_, T> {
     fn read(&mut self, block: &mut [u8]) -> io::Result<usize> {
         let count = self.inner.read(block)?;
-        if !self.is_answered() {
-            self.count(&block[..count]);
+        if !self.patience.is_transfer() {
+            self.lines.receive(&block[..count]);
         }
         Ok(count)
     }
