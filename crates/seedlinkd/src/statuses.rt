@@ -1,9 +1,8 @@
 //! What the user is told, and the exit status: 0 if the job was done or help was asked for, 1 at a fault of input or of
 //! a device, 2 if the command line is invalid, and 3 if a server that was asked for its status has a silent station.
-ghost use Rattle.std.specs.Prelude.{◌≡◌, ◌≢◌, ◌⊎◌, false, true, map, string_bytes, IfOk, OnErr};
+ghost use Rattle.std.specs.Prelude.{◌≡◌, ◌≢◌, ◌⊎◌, false, true, IfErr, IfOk, OnErr, OnOk};
 ghost use Rattle.std.specs.Process.{exit_status};
-ghost use Rattle.command_line.specs.Jobs.{IsJob, IsMistake};
-ghost use Rattle.seedlinkd.specs.Outcomes.{status_by};
+ghost use Rattle.seedlinkd.specs.Outcomes.{is_mistake, status_by};
 
 use crate::work::{Outcome, run_job};
 use command_line::{Request, WordsFault, read_words};
@@ -68,15 +67,16 @@ pub fn told(rt: &HostRuntime, text: &str, is_help: bool) -> ExitCode
     }
 }
 
-/// Does the job that the words of a command line ask, of which the first is the program's name. If they are a job, the
-/// status is 0, 1 or 3, as `status_of` has it, or 1 if memory for the words ran out. It is never 0 if they are a
-/// mistake. A fault is explained if the words ask for that, or if standard error is a terminal.
-pub fn obey(rt: &HostRuntime, words: &[String]) -> ExitCode
-    ensures job { IsJob (map string_bytes words.now) →
-        (exit_status result ≡ 0) ⊎ ((exit_status result ≡ 1) ⊎ (exit_status result ≡ 3)) }
-    ensures mistake { IsMistake (map string_bytes words.now) → exit_status result ≢ 0 }
+/// Does what words were read as. The status of a job is 0, 1 or 3, as `status_of` has it, and that of a mistake is 2. Help is
+/// told with 0, or 1 where it could not be written, and so is want of memory for the words with 1. A fault is explained
+/// if the words ask for that, or if standard error is a terminal.
+fn answered(rt: &HostRuntime, asked: Result<Request<'_>, WordsFault>) -> ExitCode
+    ensures job { OnOk asked.entry
+        ((exit_status result ≡ 0) ⊎ ((exit_status result ≡ 1) ⊎ (exit_status result ≡ 3))) }
+    ensures mistake { IfErr asked.entry (λ fault. is_mistake fault ≡ true → exit_status result ≡ 2) }
+    ensures help { IfErr asked.entry (λ fault. is_mistake fault ≡ false → exit_status result ≢ 2) }
 {
-    match read_words(rt.alloc(), words) {
+    match asked {
         Ok(Request { job, is_verbose }) => {
             let outcome = run_job(rt, job, is_verbose);
             status_of(rt, outcome, is_verbose || is_terminal())
@@ -84,4 +84,10 @@ pub fn obey(rt: &HostRuntime, words: &[String]) -> ExitCode
         Err(WordsFault::Refused { text, is_help }) => told(rt, text.as_str(), is_help),
         Err(WordsFault::OutOfMemory) => failed(rt, Failure::out_of_memory()),
     }
+}
+
+/// Does the job that the words of a command line ask, of which the first is the program's name, or tells why they ask for
+/// none.
+pub fn obey(rt: &HostRuntime, words: &[String]) -> ExitCode {
+    answered(rt, read_words(rt.alloc(), words))
 }
