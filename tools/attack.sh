@@ -5,15 +5,17 @@
 #     tools/attack.sh --old
 #
 # A NAME is a crate; without one all edits are tried, in a copy of the working tree in which they stand in must-fail, by
-# `rt must-fail`. As many crates are tried side by side as JOBS says, or else as there are processors, if each has 5 GiB of memory.
-# Each crate has a line when it ends, and its log has what `rt` said. The last line counts. The status is 0 if each edit was refused.
+# `rt ci NAME..`. The libraries that the gate proved on this machine are taken as they are; each crate is proved once more, as the start
+# for its edits. An edit that was tried here is not tried again if nothing changed that it stands on. As many are tried side by side as
+# JOBS says, or else as there are processors, if each has 5 GiB of memory. Each crate has a line when its edits were tried, and what `rt`
+# said is in the log. The last line counts. The status is 0 if each edit was refused.
 #
 # A crate whose edits were all refused has a line in attack/refused.txt, which this script writes: its name, the number of its edits, and
 # a sum of all that they stand on. It is tried again once something of that has changed, so a run that was stopped goes on, also on
 # another machine. To try all anew, remove the lines. With --old it tries nothing, and prints the names of the crates whose lines are
 # older than what their edits stand on.
 #
-# The copy and the logs stay in the folder ATTACK_FOLDER, or else in one below ${TMPDIR:-/tmp}, named for the path of this repository.
+# The copy and the log stay in the folder ATTACK_FOLDER, or else in one below ${TMPDIR:-/tmp}, named for the path of this repository.
 set -u
 top=$(cd "$(dirname "$(readlink -f "$0")")/.." && pwd -P)
 fail() {
@@ -66,8 +68,8 @@ mkdir -p "$room" || exit 2
 exec 9>"$room/lock"
 flock -n 9 || fail "another run works in $room"
 copy=$room/copy
-logs=$room/logs
-mkdir -p "$copy" "$logs"
+log=$room/log
+mkdir -p "$copy"
 
 cd "$top" || exit 2
 [ $# -gt 0 ] || set -- attack/*/
@@ -81,21 +83,12 @@ most=$(($(nproc) < memory / 5 ? $(nproc) : memory / 5))
 jobs=${JOBS:-$((most > 1 ? most : 1))}
 [[ $jobs =~ ^[1-9][0-9]*$ ]] || fail "JOBS is not a number of crates: $jobs"
 
-# Brings the copy up to date: all files that git does not ignore, with the edits of attack in place of the gate's. What was
-# proved in the copy stays, unless a library was proved here later: then that is taken.
+# Brings the copy up to date: all files that git does not ignore, with the edits of attack in place of the gate's.
 update() {
-    (cd "$copy" && for it in * .[!.]* crates/*/*; do case $it in crates | crates/*/out) ;; *) rm -rf -- "$it" ;; esac; done)
+    rm -rf -- "${copy:?}" && mkdir -p "$copy" || return 1
     sources . | xargs -0 cp --parents -t "$copy" -- || return 1
     for name in "${names[@]}"; do
         mkdir -p "$copy/crates/$name/must-fail" && cp "attack/$name"/*.edit "$copy/crates/$name/must-fail" || return 1
-    done
-    for stamp in crates/*/out/rlib/stamp; do
-        out=${stamp%/rlib/stamp}
-        if [ "$stamp" -nt "$copy/$stamp" ]; then
-            rm -rf "${copy:?}/$out"
-            mkdir -p "$copy/$out" && cp -a --reflink=auto "$out/rlib" "$copy/$out" || return 1
-            [ ! -d "$out/incremental" ] || cp -a --reflink=auto "$out/incremental" "$copy/$out" || return 1
-        fi
     done
 }
 
@@ -106,14 +99,16 @@ note() {
 # How many edits were refused of a crate that has a line, and nothing if something changed that they stand on.
 noted() { sed -n "s/^$1 \([0-9]*\) ${sums[$1]}\$/\1/p" "$record" 2>/dev/null; }
 
-# Counts what a crate's log has, adds it to the counts of all, and prints its line.
+# How many lines the log has of a crate's edits that say so.
+said() { grep -cE "^rt: must-fail $1/[^/]*\.edit: $2" "$log"; }
+# Counts what the log has of a crate, adds it to the counts of all, and prints the crate's line.
 declare -A count=([tried]=0 [refused]=0 [not_refused]=0 [bad]=0 [left]=0)
 tell() {
     local of refused not_refused bad left
     of=$(find "$copy/crates/$1/must-fail" -name '*.edit' | wc -l)
-    refused=$(grep -c "^rt: must-fail $1/.*\.edit: refused, as it must be" "$logs/$1.log")
-    not_refused=$(grep -c "^rt: must-fail $1/.*\.edit: NOT REFUSED" "$logs/$1.log")
-    bad=$(grep -c "^rt: .*: BAD EDIT: " "$logs/$1.log")
+    refused=$(said "$1" "refused, as it must be")
+    not_refused=$(said "$1" "NOT REFUSED")
+    bad=$(said "$1" "BAD EDIT")
     left=$((of - refused - not_refused - bad))
     count[refused]=$((count[refused] + refused)) count[not_refused]=$((count[not_refused] + not_refused))
     count[bad]=$((count[bad] + bad)) count[left]=$((count[left] + left)) count[tried]=$((count[tried] + of - left))
@@ -124,10 +119,10 @@ counts() {
     echo "$1 tried, $2 refused, $3 not refused, $4 bad$([ "$5" -eq 0 ] || echo "; $5 not tried")"
 }
 
-# ---- which crates are left to try, first those that take longest
+# ---- which crates are left to try
 
 update || fail "the copy in $copy could not be made"
-echo "attack: the copy and the logs are in $room" >&2
+echo "attack: the copy and the log are in $room" >&2
 tree=$copy
 files=$(cd "$copy" && find crates -path 'crates/*/out' -prune -o -type f -print | LC_ALL=C sort | xargs sha256sum)
 declare -A sums
@@ -142,43 +137,46 @@ for name in "${names[@]}"; do
         left+=("$name")
     fi
 done
-mapfile -t left < <(for name in "${left[@]}"; do echo "$(find "attack/$name" -name '*.edit' | wc -l) $name"; done |
-    awk 'NR == FNR { if (!/^#/) seconds[$1] = $2; next } { print $1 * (15 + seconds[$2] / 10), $2 }' tools/proving_seconds.txt - | sort -rn | cut -d' ' -f2)
+# What an earlier run tried is not tried again.
+for name in "${names[@]}"; do case " ${left[*]} " in *" $name "*) ;; *) rm -rf "$copy/crates/$name/must-fail" ;; esac; done
 
-# ---- the crates are proved and built, and then tried
+# ---- those are tried
 
-builder=
-declare -A running=()
+running=
 stop() {
     trap '' HUP INT TERM
-    kill ${builder:+"$builder"} "${!running[@]}" 2>/dev/null
+    kill ${running:+"$running"} 2>/dev/null
     wait
     echo "attack: stopped; run it again to go on" >&2
     exit 130
 }
 trap stop HUP INT TERM
-begin() {
-    (cd "$copy" && RT_JOBS=1 exec rt must-fail "$1") >"$logs/$1.log" 2>&1 &
-    running[$!]=$1
+# Tells each crate whose edits all have a line in the log.
+tell_tried() {
+    local waiting=()
+    for name in "${untold[@]}"; do
+        if [ "$(said "$name" '')" -ge "$(find "$copy/crates/$name/must-fail" -name '*.edit' | wc -l)" ]; then
+            tell "$name"
+        else
+            waiting+=("$name")
+        fi
+    done
+    untold=("${waiting[@]}")
 }
-await_one() {
-    local ended
-    wait -n -p ended "${!running[@]}"
-    tell "${running[$ended]}"
-    unset "running[$ended]"
-}
+untold=("${left[@]}")
 if [ "${#left[@]}" -gt 0 ]; then
-    "$copy/tools/build_libraries.py" "${left[@]}" &
-    builder=$!
-    wait "$builder" || fail "the crates could not be proved as they are"
-    builder=
+    (cd "$copy" && RT_JOBS=$jobs exec rt ci "${left[@]}") >"$log" 2>&1 &
+    running=$!
+    while kill -0 "$running" 2>/dev/null; do
+        sleep 5 &
+        wait -n "$running" $!
+        tell_tried
+    done
+    wait "$running"
+    running=
+    tell_tried
+    for name in "${untold[@]}"; do tell "$name"; done
+    grep -hE ": (NOT REFUSED|BAD EDIT|NOT TRIED): " "$log"
 fi
-for name in "${left[@]}"; do
-    [ "${#running[@]}" -lt "$jobs" ] || await_one
-    begin "$name"
-done
-while [ "${#running[@]}" -gt 0 ]; do await_one; done
-
-for name in "${left[@]}"; do grep -hE ": (NOT REFUSED|BAD EDIT|NOT TRIED): " "$logs/$name.log"; done
 counts "${count[tried]}" "${count[refused]}" "${count[not_refused]}" "${count[bad]}" "${count[left]}"
 [ $((count[not_refused] + count[bad] + count[left])) -eq 0 ]
