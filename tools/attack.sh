@@ -168,7 +168,7 @@ if [ "${#left[@]}" -gt 0 ]; then
     (cd "$copy" && RT_JOBS=$jobs exec rt ci "${left[@]}") >"$log" 2>&1 &
     running=$!
     while kill -0 "$running" 2>/dev/null; do
-        sleep 5 &
+        sleep 5 9>&- & # which must not hold the lock
         wait -n "$running" $!
         tell_tried
     done
