@@ -91,6 +91,10 @@ MISTAKES = [
     ("a compressed file of less than a record to check", "check small.gz", 1, ["41 Partial\n", "  found: a file compressed by gzip\n"]),
     ("an empty script", "replay c.toml empty", 0, ["seedlinkd: no event to replay in empty\n"]),
     ("a script of comments", "replay c.toml comments.script", 0, ["seedlinkd: no event to replay in comments.script\n"]),
+    ("a state in the place of a lock of an archive", "read SERVER GE_APE --fetch --archive folder --state folder/.GE_APE.lock", 1,
+     ["53 State\n", "  reason: a name that ends with .lock is that of a lock\n"]),
+    ("an output in the place of the lock of another", "read SERVER GE_APE --fetch --output one.lock --state one.state", 1,
+     ["53 State\n", "  file: one.lock\n  reason: a name that ends with .lock is that of a lock\n"]),
     # feeds
     ("nothing to feed", "feed FEEDS empty", 0, ["sent 0 records\n"]),
     ("a record after the last one", "feed FEEDS two.mseed --from 100", 0, ["sent 0 records: there is no record 100 in two.mseed\n"]),

@@ -49,9 +49,21 @@ fn locked(rt: &HostRuntime, path: &str, text: &'static str) -> io::Result<File> 
     }
 }
 
+/// What is said of a file to lock that has the name of a lock itself: it may be that of an archive or of a state.
+fn is_a_lock() -> io::Error {
+    io::Error::new(
+        ErrorKind::InvalidInput,
+        "a name that ends with .lock is that of a lock",
+    )
+}
+
 impl HeldLock {
-    /// Locks the file at a place. What is said if somebody else has locked it is that text.
+    /// Locks the file at a place, whose name is not that of a lock. What is said if somebody else has locked it is that
+    /// text.
     pub fn new(rt: &HostRuntime, place: &str, text: &'static str) -> io::Result<HeldLock> {
+        if place.ends_with(".lock") {
+            return Err(is_a_lock());
+        }
         let Ok(path) = format!(in rt.alloc(); "{place}.lock") else {
             return Err(io::Error::from(ErrorKind::OutOfMemory));
         };
