@@ -67,9 +67,9 @@ pub fn told(rt: &HostRuntime, text: &str, is_help: bool) -> ExitCode
     }
 }
 
-/// Does what words were read as. The status of a job is 0, 1 or 3, as `status_of` has it, and that of a mistake is 2. Help is
-/// told with 0, or 1 where it could not be written, and so is want of memory for the words with 1. A fault is explained
-/// if the words ask for that, or if standard error is a terminal.
+/// Does what words were read as. The status of a job is 0, 1 or 3, as `status_of` has it, and that of a mistake is 2.
+/// Help ends with 0, or with 1 if it could not be written, and want of memory for the words ends with 1. A fault is
+/// explained if the words ask for that, or if standard error is a terminal.
 fn answered(rt: &HostRuntime, asked: Result<Request<'_>, WordsFault>) -> ExitCode
     ensures job { OnOk asked.entry
         ((exit_status result ≡ 0) ⊎ ((exit_status result ≡ 1) ⊎ (exit_status result ≡ 3))) }
@@ -86,8 +86,8 @@ fn answered(rt: &HostRuntime, asked: Result<Request<'_>, WordsFault>) -> ExitCod
     }
 }
 
-/// Does the job that the words of a command line ask, of which the first is the program's name, or tells why they ask for
-/// none.
+/// Does the job that the words of a command line ask, of which the first is the program's name, or tells why they ask
+/// for none.
 pub fn obey(rt: &HostRuntime, words: &[String]) -> ExitCode {
     answered(rt, read_words(rt.alloc(), words))
 }
